@@ -1,0 +1,6 @@
+-- What other crates cite of the facts on strings and on values that hold no other.
+pub use Rattle.chars.proofs.strings.Laws.{ScanAhead, string-ahead, string-close, string-bounds}
+pub use Rattle.chars.proofs.strings.Meaning.{same-refl, same-true}
+pub use Rattle.chars.proofs.space.Laws.{run-end, run-next, run-stop, run-from, run-within}
+pub use Rattle.chars.proofs.scalars.Laws.{first-quote, first-array, first-object, quote-first, array-first, object-first}
+pub use Rattle.chars.proofs.scalars.Laws.{scalar-bounded, scalar-end, scalar-spells, quoted-bounds, quoted-characters, characters-text}

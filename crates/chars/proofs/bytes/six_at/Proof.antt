@@ -1,0 +1,22 @@
+use borrow.Author.Needs.{needs}
+use Rattle.chars.proofs.bytes.six_at.Statement.{statement}
+use Rattle.chars.proofs.bytes.six_at.Tie as tie
+use Rattle.chars.proofs.bytes.six_at.Reads as reads
+use Rattle.chars.proofs.bytes.six_at.Lts as lts
+use Rattle.chars.proofs.bytes.peek.Reads as peek-reads
+use Rattle.chars.proofs.bytes.six_bits.Reads as six-bits-reads
+
+-- src/lib.rt:148:14
+peek-requires : tie.Need-peek-requires
+peek-requires c κs = search needs
+
+-- src/lib.rt:148:5
+six-bits-requires : tie.Need-six-bits-requires
+six-bits-requires c κs = search needs
+
+-- src/lib.rt:144:1
+returns : tie.Need-returns
+returns c = cc
+
+pub six-at-spec : {M : Type 1} → statement M
+six-at-spec = tie.close (tie.spec peek-requires six-bits-requires returns)

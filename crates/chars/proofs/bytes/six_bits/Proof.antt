@@ -1,0 +1,36 @@
+use mathlib.Core.Path.{ap}
+use Prim.Native.Nat.{ℕ, _-_}
+use borrow.Author.Tests.{le-leb, lt-leb}
+use Rattle.chars.specs.Bytes.{sixBits}
+use borrow.Author.Needs.{needs}
+use Rattle.chars.proofs.bytes.six_bits.Statement.{statement}
+use Rattle.chars.proofs.bytes.six_bits.Tie as tie
+use Rattle.chars.proofs.bytes.six_bits.Reads as reads
+use Rattle.chars.proofs.bytes.six_bits.Lts as lts
+use Rattle.chars.proofs.bytes.wide.Reads as wide-reads
+
+-- src/lib.rt:129:9
+returns : tie.Need-returns
+unfolding sixBits
+returns c = rw (lt-leb _ _ (c .if1 .taken))
+
+-- src/lib.rt:132:9
+returns-2 : tie.Need-returns-2
+unfolding sixBits
+returns-2 c = rw (le-leb _ _ (c .before .if1 .left), lt-leb _ _ (c .if2 .taken))
+
+-- src/lib.rt:134:5
+wide-requires : tie.Need-wide-requires
+wide-requires c κs = search needs
+
+-- src/lib.rt:134:5
+sub-result : tie.Need-sub-result
+sub-result c = search needs
+
+-- src/lib.rt:124:1
+returns-3 : tie.Need-returns-3
+unfolding sixBits
+returns-3 c = rw (le-leb _ _ (c .before .before .if1 .left), le-leb _ _ (c .before .if2 .left)) (ap (λ (x : ℕ). x - 0x80) (c .wide .ensures))
+
+pub six-bits-spec : {M : Type 1} → statement M
+six-bits-spec = tie.close (tie.spec returns returns-2 wide-requires sub-result returns-3)

@@ -1,0 +1,29 @@
+use Rattle.chars.specs.Characters.{wrongAt}
+use borrow.Author.Needs.{needs}
+use Rattle.chars.proofs.characters.wrong.Statement.{statement}
+use Rattle.chars.proofs.characters.wrong.Tie as tie
+use Rattle.chars.proofs.characters.wrong.Reads as reads
+use Rattle.chars.proofs.characters.wrong.Lts as lts
+use Rattle.chars.proofs.bytes.code_of.Reads as code-of-reads
+use Rattle.chars.proofs.bytes.peek.Reads as peek-reads
+use Rattle.chars.proofs.characters.stop.Reads as stop-reads
+
+-- src/lib.rt:69:9
+peek-requires : tie.Need-peek-requires
+peek-requires c κs = search needs
+
+-- src/lib.rt:70:20
+code-of-requires : tie.Need-code-of-requires
+code-of-requires c κs = search needs
+
+-- src/lib.rt:70:5
+stop-requires : tie.Need-stop-requires
+stop-requires c κs = search needs
+
+-- src/lib.rt:66:1
+returns : tie.Need-returns
+unfolding wrongAt
+returns c = cc
+
+pub wrong-spec : {M : Type 1} → statement M
+wrong-spec = tie.close (tie.spec peek-requires code-of-requires stop-requires returns)

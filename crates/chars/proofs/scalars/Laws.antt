@@ -1,0 +1,165 @@
+-- Values that hold no other: what their first byte says, where they end, and how they are spelled.
+use mathlib.Core.Path.{_≡_, refl, sym, ap, _∙_, subst}
+use mathlib.Core.List.{List, [], _∷_}
+use mathlib.Core.Bool.{true, _||_, or-true}
+use Prim.Native.Nat.{ℕ, _+_, _-_, _≤_, _<_}
+use native.Mathlib.Decide.{decLt}
+use native.Mathlib.Omega.{arith}
+use lib.ListN.{length, List·getD-eq-default}
+use lib.Dec.{eqb, ltb}
+use borrow.Author.Tests.{eqb-true, ltb-true, lt-ltb, le-leb}
+use Rattle.model.specs.Text.{text, all, isScalar, isText}
+use Rattle.model.specs.Value.{isDigit}
+use Rattle.chars.specs.declared.strings.Scan.{Scan}
+use Rattle.chars.specs.declared.strings.Scan.the-variants.{Ends, Stopped}
+use Rattle.chars.specs.declared.scalars.First.{First}
+use Rattle.chars.specs.declared.scalars.First.the-variants.{Array, Object, Quote, Number, LetterN, LetterF, LetterT, Other}
+use Rattle.chars.specs.Bytes.{byteAt}
+use Rattle.chars.specs.Parse.{Parse, refused, parsed, unexpected}
+use Rattle.chars.specs.Strings.{stringAt, charsAt, characters, part}
+use Rattle.chars.specs.Tokens.{Kind, Null, False, True}
+use Rattle.chars.specs.Scalars.{firstOf, wordAt, quoted, scalarBy, scalarAt}
+use Rattle.chars.specs.Spelling.{Spells, IsQuoted}
+use Rattle.chars.proofs.bytes.Laws.{both, and-ways, in-text}
+use Rattle.chars.proofs.characters.Laws.{Scalar}
+use Rattle.chars.proofs.strings.Laws.{ScanAhead, string-ahead, string-close}
+use Rattle.chars.proofs.strings.Parts.{part-characters}
+use Rattle.chars.proofs.strings.Meaning.{Scalars, scalars}
+use Rattle.chars.proofs.Bounds.{Bounded, unexpected-ways, unexpected-bounded, unexpected-end}
+use Rattle.chars.proofs.Pieces.{part-none, part-cons}
+use Rattle.chars.proofs.numbers.Laws.{Spelled, unexpected-spelled, number-bounded, number-spelled}
+
+-- the first byte of each kind of value
+abbrev Begins : ℕ → First → Type 0
+Begins b Quote = b ≡ 0x22
+Begins b Array = b ≡ 0x5B
+Begins b Object = b ≡ 0x7B
+Begins b Number = isDigit b || eqb b 0x2D ≡ true
+Begins b LetterN = b ≡ 0x6E
+Begins b LetterF = b ≡ 0x66
+Begins b LetterT = b ≡ 0x74
+Begins b Other = Unit
+
+begins : (b : ℕ) → Begins b (firstOf b)
+unfolding firstOf
+begins b =
+    both (Begins b) (eqb b 0x22) (eqb-true b 0x22)
+    (λ _. both (Begins b) (eqb b 0x5B) (eqb-true b 0x5B)
+    (λ _. both (Begins b) (eqb b 0x7B) (eqb-true b 0x7B)
+    (λ _. both (Begins b) (isDigit b || eqb b 0x2D) (λ t. t)
+    (λ _. both (Begins b) (eqb b 0x6E) (eqb-true b 0x6E)
+    (λ _. both (Begins b) (eqb b 0x66) (eqb-true b 0x66)
+    (λ _. both (Begins b) (eqb b 0x74) (eqb-true b 0x74) (λ _. tt)))))))
+
+module _ (b : ℕ) where
+  pub first-quote : firstOf b ≡ Quote → b ≡ 0x22
+  first-quote e = rw e at (begins b)
+
+  pub first-array : firstOf b ≡ Array → b ≡ 0x5B
+  first-array e = rw e at (begins b)
+
+  pub first-object : firstOf b ≡ Object → b ≡ 0x7B
+  first-object e = rw e at (begins b)
+
+  -- the other way round
+  pub quote-first : b ≡ 0x22 → firstOf b ≡ Quote
+  unfolding firstOf
+  quote-first e = rw e
+
+  pub array-first : b ≡ 0x5B → firstOf b ≡ Array
+  unfolding firstOf
+  array-first e = rw e
+
+  pub object-first : b ≡ 0x7B → firstOf b ≡ Object
+  unfolding firstOf
+  object-first e = rw e
+
+-- a word that was read stands there
+abbrev Word : Kind → List ℕ → List ℕ → ℕ → Parse Kind → Type 0
+Word k w s i (refused c p) = (p ≤ length s) × (2 ≤ c) × (c ≤ 7)
+Word k w s i (parsed j e) = (j ≡ k) × (e ≡ i + length w) × (e ≤ length s) × (part s i e ≡ w)
+
+more : (k : Kind) (c : ℕ) (w s : List ℕ) (i : ℕ) → byteAt s i ≡ c → i < length s → (r : Parse Kind) → Word k w s (i + 1) r → Word k (c ∷ w) s i r
+more k c w s i q l (refused d p) h = h
+more k c w s i q l (parsed j e) h = (h .0, omega arith, h .2, part-cons s i e (omega arith) l ∙ cc (h .3))
+
+word-read : (k : Kind) (w s : List ℕ) (i : ℕ) → all (ltb 0) w ≡ true → i ≤ length s → Word k w s i (wordAt k w s i)
+unfolding wordAt
+word-read k [] s i t l = (refl, omega arith, l, part-none s i)
+word-read k (c ∷ w) s i t l =
+    and-ways (ltb 0 c) (all (ltb 0) w) t
+    (λ z u. both (Word k (c ∷ w) s i) (eqb (byteAt s i) c)
+    (λ v. let q = eqb-true (byteAt s i) c v in
+    let m = in-text s i (omega (arith, ltb-true 0 c z)) in
+    more k c w s i q m (wordAt k w s (i + 1)) (word-read k w s (i + 1) u (omega arith)))
+    (λ _. unexpected-ways (Word k (c ∷ w) s i) s i (λ l. omega arith) (omega arith)))
+
+-- what is read ends within the text, and is spelled there
+abbrev Good : List ℕ → ℕ → Parse Kind → Type 0
+Good s i r = Bounded s i r × Spelled s i r
+
+word-good : (k : Kind) (w s : List ℕ) (i : ℕ) → 0 < length w → ((e : ℕ) → part s i e ≡ w → Spells k s i e) → (r : Parse Kind) → Word k w s i r → Good s i r
+word-good k w s i l f (refused c p) h = (h, tt)
+word-good k w s i l f (parsed j e) h = (omega arith, subst (λ (x : Kind). Spells x s i e) (sym (h .0)) (f e (h .3)))
+
+quoted-good : (s : List ℕ) (i : ℕ) → byteAt s i ≡ 0x22 → (r : Scan) → stringAt s (i + 1) ≡ r → ScanAhead s (i + 1) r → Good s i (quoted r)
+quoted-good s i o (Ends e) q h = (omega arith, record { opens = o; ends = q })
+quoted-good s i o (Stopped c p) q h = (omega arith, tt)
+
+module _ (s : List ℕ) (i : ℕ) where
+  unexpected-good : Good s i (unexpected s i)
+  unexpected-good = (unexpected-bounded Kind s i i, unexpected-spelled s i i)
+
+  -- the word w, none of whose bytes is 0, by its first
+  letter-good : (k : Kind) (c : ℕ) (w : List ℕ) → all (ltb 0) (c ∷ w) ≡ true → ((e : ℕ) → part s i e ≡ c ∷ w → Spells k s i e)
+      → byteAt s i ≡ c → Good s i (wordAt k (c ∷ w) s i)
+  letter-good k c w t f b =
+      and-ways (ltb 0 c) (all (ltb 0) w) t
+      (λ z _. let l = in-text s i (omega (arith, ltb-true 0 c z)) in
+      word-good k (c ∷ w) s i (omega arith) f (wordAt k (c ∷ w) s i) (word-read k (c ∷ w) s i t (omega arith)))
+
+  good-by : (f : First) → Begins (byteAt s i) f → Good s i (scalarBy f s i)
+  good-by Quote b = quoted-good s i b (stringAt s (i + 1)) refl (string-ahead s (i + 1))
+  good-by Number b = (number-bounded s i, number-spelled s i)
+  good-by LetterN b = letter-good Null 0x6E (text "ull") refl (λ e q. q) b
+  good-by LetterF b = letter-good False 0x66 (text "alse") refl (λ e q. q) b
+  good-by LetterT b = letter-good True 0x74 (text "rue") refl (λ e q. q) b
+  good-by Array b = unexpected-good
+  good-by Object b = unexpected-good
+  good-by Other b = unexpected-good
+
+  pub scalar-bounded : Bounded s i (scalarAt s i)
+  scalar-bounded = good-by (firstOf (byteAt s i)) (begins (byteAt s i)) .0
+
+  pub scalar-spelled : Spelled s i (scalarAt s i)
+  scalar-spelled = good-by (firstOf (byteAt s i)) (begins (byteAt s i)) .1
+
+  -- behind the text
+  pub scalar-end : length s ≤ i → scalarAt s i ≡ refused 2 (length s)
+  unfolding firstOf
+  scalar-end h = let z : byteAt s i ≡ 0 = List·getD-eq-default s 0 h in rw z (unexpected-end s i h)
+
+pub scalar-spells : (s : List ℕ) (i e : ℕ) (k : Kind) → scalarAt s i ≡ parsed k e → Spells k s i e
+scalar-spells s i e k q = rw q at (scalar-spelled s i)
+
+-- both quotes
+pub quoted-bounds : {s : List ℕ} {f e : ℕ} → IsQuoted s f e → (f + 2 ≤ e) × (e ≤ length s) × (byteAt s (e - 1) ≡ 0x22)
+quoted-bounds {s} {f} {e} q = let h = string-close s (f + 1) e (q .ends) in (omega arith, h .1, h .2)
+
+-- the characters of a string are those of its bytes between the quotes
+pub quoted-characters : {s : List ℕ} {f e : ℕ} → IsQuoted s f e → characters (part s (f + 1) (e - 1)) ≡ charsAt s (f + 1)
+quoted-characters {s} {f} {e} q = let b = quoted-bounds q in let z : e ≡ e - 1 + 1 = omega arith in part-characters s (f + 1) (e - 1) (q .ends ∙ ap Ends z)
+
+scalar-test : (v : ℕ) → Scalar v → isScalar v ≡ true
+scalar-test v h = go (decLt v 0xD800)
+  where
+    go : Dec (v < 0xD800) → isScalar v ≡ true
+    go (yes l) = rw (lt-ltb v 0xD800 l)
+    go (no n) = rw (le-leb 0xE000 v (h .1 (omega arith)), le-leb v 0x10FFFF (h .0), or-true)
+
+scalars-text : (t : List ℕ) → Scalars t → isText t ≡ true
+scalars-text [] h = refl
+scalars-text (v ∷ t) h = rw (scalar-test v (h .0)) (scalars-text t (h .1))
+
+pub characters-text : (s : List ℕ) → isText (characters s) ≡ true
+characters-text s = scalars-text (characters s) (scalars s 0)

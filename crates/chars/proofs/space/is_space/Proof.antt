@@ -1,0 +1,28 @@
+-- `chars::space::is_space` meets its contract: each arm by its byte, the last by what it is not.
+use borrow.Author.Tests.{ne-eqb}
+use Rattle.chars.specs.Space.{isSpace}
+use Rattle.chars.proofs.space.is_space.Statement.{statement}
+use Rattle.chars.proofs.space.is_space.Tie as tie
+
+returns : tie.Need-returns
+unfolding isSpace
+returns c = rw (c .match .keys1)
+
+returns-2 : tie.Need-returns-2
+unfolding isSpace
+returns-2 c = rw (c .match .keys2)
+
+returns-3 : tie.Need-returns-3
+unfolding isSpace
+returns-3 c = rw (c .match .keys3)
+
+returns-4 : tie.Need-returns-4
+unfolding isSpace
+returns-4 c = rw (c .match .keys4)
+
+returns-5 : tie.Need-returns-5
+unfolding isSpace
+returns-5 c = rw (ne-eqb _ 0x20 (c .match .rest .0 .0 .0 .1), ne-eqb _ 0x09 (c .match .rest .0 .0 .1), ne-eqb _ 0x0A (c .match .rest .0 .1), ne-eqb _ 0x0D (c .match .rest .1))
+
+pub is-space-spec : {M : Type 1} → statement M
+is-space-spec = tie.close (tie.spec returns returns-2 returns-3 returns-4 returns-5)

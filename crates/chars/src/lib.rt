@@ -1,0 +1,21 @@
+// What a text is made of: space, characters, strings, numbers and literals.
+mod bytes;
+mod characters;
+mod numbers;
+mod scalars;
+mod space;
+mod strings;
+mod tokens;
+
+pub use bytes::peek;
+pub use characters::Step;
+pub use characters::char_at;
+pub use scalars::First;
+pub use scalars::begins;
+pub use scalars::scalar;
+pub use space::skip;
+pub use strings::Scan;
+pub use strings::same_name;
+pub use strings::string_end;
+pub use tokens::Token;
+pub use tokens::unexpected;

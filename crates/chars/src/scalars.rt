@@ -1,0 +1,84 @@
+// What a value begins with, and the values that hold no other (01, "Rows").
+use crate::bytes::peek;
+use crate::numbers::number;
+use crate::strings::Scan;
+use crate::strings::string_end;
+use crate::tokens::Token;
+use crate::tokens::unexpected;
+ghost use mathlib.Core.Path.{_≡_};
+ghost use Rattle.chars.specs.Tokens.{tokenOf, kindNumber, Kind};
+ghost use Rattle.chars.specs.Scalars.{firstOf, wordAt, quoted, scalarAt};
+ghost use Rattle.chars.specs.Strings.{stringAt};
+ghost use Prim.Native.Nat.{_<_, _+_};
+ghost use lib.ListN.{length};
+
+// What the first byte of a value begins.
+pub enum First {
+    Array,
+    Object,
+    Quote,
+    Number,
+    LetterN,
+    LetterF,
+    LetterT,
+    Other,
+}
+
+// The first byte of a value decides what is read.
+pub fn begins(b: u8) -> First
+    ensures { λ r. ⌜ r ≡ firstOf b ⌝ }
+{
+    match b {
+        b'"' => First::Quote,
+        b'[' => First::Array,
+        b'{' => First::Object,
+        b'-' => First::Number,
+        b'0'..=b'9' => First::Number,
+        b'n' => First::LetterN,
+        b'f' => First::LetterF,
+        b't' => First::LetterT,
+        _ => First::Other,
+    }
+}
+
+// The bytes of a word stand at a place.
+fn literal(text: &[u8], at: usize, word: &[u8], kind: u32) -> Token
+    requires { ⌜ at < length (now text) ⌝ }
+    ensures { λ r. ⌜ ((k : Kind) → kind ≡ kindNumber k → r ≡ tokenOf (wordAt k (now (word .entry)) (now (text .entry)) at)) ⌝ }
+{
+    let mut i = at;
+    let mut k: usize = 0;
+    while k < word.len() {
+        if peek(text, i) != word[k] {
+            return unexpected(text, i);
+        }
+        i += 1;
+        k += 1;
+    }
+    Token::Taken { kind, end: i }
+}
+
+// The string whose opening quote stands at a place.
+fn string(text: &[u8], at: usize) -> Token
+    requires { ⌜ at < length (now text) ⌝ }
+    ensures { λ r. ⌜ r ≡ tokenOf (quoted (stringAt (now (text .entry)) (at + 1))) ⌝ }
+{
+    match string_end(text, at + 1) {
+        Scan::Ends(end) => Token::Taken { kind: 6, end },
+        Scan::Stopped { code, place } => Token::Broken { code, place },
+    }
+}
+
+// The value at a place that holds no other.
+pub fn scalar(text: &[u8], at: usize) -> Token
+    ensures { λ r. ⌜ r ≡ tokenOf (scalarAt (now (text .entry)) at) ⌝ }
+{
+    match begins(peek(text, at)) {
+        First::Quote => string(text, at),
+        First::Number => number(text, at),
+        First::LetterN => literal(text, at, b"null", 1),
+        First::LetterF => literal(text, at, b"false", 2),
+        First::LetterT => literal(text, at, b"true", 3),
+        _ => unexpected(text, at),
+    }
+}
