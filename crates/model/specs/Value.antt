@@ -1,4 +1,4 @@
--- JSON values (document 01, "Text"). Space and escapes are no part of them. Assumes nothing.
+-- JSON values (01, "Text"): "null, false, true, a number as spelled, a string of Unicode scalar values, a list of values, or a list of members whose names differ. Space and escapes are no part of it."
 use Prim.Native.Nat.{ℕ}
 use mathlib.Core.Path.{_≡_}
 use mathlib.Core.Logic.{_⊎_}
@@ -40,7 +40,8 @@ abbrev pub Under : List ℕ → Value → Members → Type 0
 Under n w mnil = ⊥
 Under n w (mcons m v ms) = ((n ≡ m) × (w ≡ v)) ⊎ Under n w ms
 
--- Numbers, by the grammar of RFC 8259, section 6.
+-- ---- numbers, by the grammar of RFC 8259, section 6
+
 abbrev pub isDigit : ℕ → Bool
 isDigit c = leb 0x30 c && leb c 0x39
 
@@ -81,11 +82,11 @@ pub record IsNumber (s : List ℕ) : Type 0 where
   pub is-fraction : isFraction fraction ≡ true
   pub is-exponent : isExponent exponent ≡ true
 
--- a number without fraction and exponent: no '.', 'E' or 'e' stands in it
+-- "a number without fraction or exponent": no '.', 'E' or 'e' stands in it
 abbrev pub isInteger : List ℕ → Bool
 isInteger s = all (λ c. not (eqb c 0x2E || eqb c 0x45 || eqb c 0x65)) s
 
--- The values of document 01: the names in each object differ, characters are Unicode scalar values, numbers follow the grammar.
+-- ---- the values that are JSON values: numbers follow the grammar, strings and names are of scalar values, and the names of an object differ
 abbrev mutual
   pub IsJson : Value → Type 0
   IsJson null = Unit

@@ -8,16 +8,8 @@ use native.Mathlib.Omega.{arith}
 use lib.ListN.{length, List·getD-eq-default}
 use lib.Dec.{eqb, leb, lit≤}
 use borrow.Author.Tests.{leb-true, leb-false, le-leb, eqb-true}
+pub use Rattle.model.proofs.Basics.{both, and-ways}
 use Rattle.chars.specs.Bytes.{byteAt, from-to, codeOf, digit, named, lowest, highest, sixBits}
-
--- both ways of a test
-pub both {ℓ} : {A : Type 0} (P : A → Type ℓ) (b : Bool) {x y : A} → (b ≡ true → P x) → (b ≡ false → P y) → P (cond b x y)
-both P true f g = f refl
-both P false f g = g refl
-
-pub and-ways : {P : Type 0} (a b : Bool) → a && b ≡ true → (a ≡ true → b ≡ true → P) → P
-and-ways true b t f = f refl t
-and-ways false b t f = let z : _≡_ {A = ℕ} 0 1 = cc in absurd (omega arith)
 
 -- outside of a range
 pub outside : (lo hi b : ℕ) → from-to lo hi b ≡ false → lo ≤ b → hi < b
