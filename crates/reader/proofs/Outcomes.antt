@@ -1,0 +1,43 @@
+-- The answer of Read and its table, from what was read.
+use mathlib.Core.Path.{_≡_, refl, sym}
+use mathlib.Core.List.{List}
+use mathlib.Core.Bool.{Bool, true, false, cond}
+use Prim.Native.Nat.{ℕ, _≤_, _<_}
+use native.Mathlib.Omega.{arith}
+use lib.ListN.{length}
+use lib.Seq.{sets}
+use lib.Dec.{leb}
+use borrow.Author.Tests.{leb-true, le-leb, lt-leb}
+use Rattle.chars.specs.Parse.{Parse, refused, parsed}
+use Rattle.reader.specs.Tree.{Node}
+use Rattle.reader.specs.Rows.{size, words}
+use Rattle.reader.specs.Answer.{answer, rowsIn, answerOf, tableOf}
+use Rattle.reader.proofs.Words.{stored}
+
+pub answer-refused : (which c p : ℕ) (t : List ℕ) → (answerOf which (length t) (refused c p) ≡ answer c which p 0) × (tableOf t (refused c p) ≡ t)
+unfolding answerOf tableOf
+answer-refused which c p t = (refl, refl)
+
+module _ (which : ℕ) (t : List ℕ) (n : Node) (e : ℕ) where
+  pub answer-full : rowsIn (length t) < size n
+      → (answerOf which (length t) (parsed n e) ≡ answer 8 which 0 (size n)) × (tableOf t (parsed n e) ≡ t)
+  unfolding answerOf tableOf
+  answer-full h = let q = lt-leb (size n) (rowsIn (length t)) h in (rw q, rw q)
+
+  pub answer-read : size n ≤ rowsIn (length t)
+      → (answerOf which (length t) (parsed n e) ≡ answer 0 0 0 (size n)) × (tableOf t (parsed n e) ≡ sets t 0 (words n))
+  unfolding answerOf tableOf
+  answer-read h =
+      let q = le-leb (size n) (rowsIn (length t)) h in
+      (rw q, rw q (sym (stored n t (omega arith))))
+
+-- code 0 says that a tree was read and had room, where every refusal has a code above 0
+pub answer-zero : (which w : ℕ) (o : Parse Node) → answerOf which w o .code ≡ 0 → ((c p : ℕ) → o ≡ refused c p → 0 < c)
+    → (n : Node) × (e : ℕ) × (o ≡ parsed n e) × (size n ≤ rowsIn w)
+unfolding answerOf
+answer-zero which w (refused c p) z above = absurd (omega (arith, above c p refl))
+answer-zero which w (parsed n e) z above = (n, e, refl, room (leb (size n) (rowsIn w)) refl z)
+  where
+    room : (b : Bool) → leb (size n) (rowsIn w) ≡ b → cond b (answer 0 0 0 (size n)) (answer 8 which 0 (size n)) .code ≡ 0 → size n ≤ rowsIn w
+    room true q y = leb-true _ _ q
+    room false q y = absurd (omega arith)

@@ -1,0 +1,596 @@
+-- The first pass meets its contracts. The measure is thrice the brackets allowed to open, with two more in `array` and `object` and one more in `member`.
+-- The loops' invariants are `InArray` and `InObject`; `Scans` has a law for each way out of their bodies. Below each member's name stands what is known at its places.
+use Prim.Native.Nat.{ℕ, _+_, _-_, _*_, _<_}
+use mathlib.Core.Path.{sym, ap, _∙_}
+use native.Mathlib.Omega.{arith}
+use borrow.Author.Needs.{needs}
+use lib.ListN.{length, length-set}
+use lib.Seq.{slice}
+use Rattle.chars.specs.Scalars.{firstOf}
+use Rattle.reader.proofs.Scans.{Opened, opened-inside, turn-takes, turn-inside, turn-close, turn-bad, turn-on}
+use Rattle.reader.proofs.Scans.{InArray, ElementTurn, array-empty, array-first, array-ready, array-refused, array-turn, array-next}
+use Rattle.reader.proofs.Scans.{InObject, MemberTurn, object-empty, object-first, object-ready, object-refused, object-turn, object-next}
+use Rattle.reader.proofs.Scans.{NameRead, Named, name-read, told-unnamed, told-bare, name-behind, named-ready, named-rows, told-refused, told-member}
+use Rattle.reader.proofs.Scans.{Begun, array-in, object-in, array-deep, object-deep, told-leaf, told-array, told-object}
+use borrow.Fn.Kinds.{In}
+use borrow.Fn.PlainCycle.{Measures, is, falls, and}
+use Rattle.reader.proofs.scanning.array.Reads as array
+use Rattle.reader.proofs.scanning.array.Kinds as array-kinds
+use Rattle.reader.proofs.scanning.+array+member+object+value.Lts-array as array-lts
+use Rattle.reader.proofs.scanning.member.Reads as member
+use Rattle.reader.proofs.scanning.member.Kinds as member-kinds
+use Rattle.reader.proofs.scanning.+array+member+object+value.Lts-member as member-lts
+use Rattle.reader.proofs.scanning.object.Reads as object
+use Rattle.reader.proofs.scanning.object.Kinds as object-kinds
+use Rattle.reader.proofs.scanning.+array+member+object+value.Lts-object as object-lts
+use Rattle.reader.proofs.scanning.value.Reads as value
+use Rattle.reader.proofs.scanning.value.Kinds as value-kinds
+use Rattle.reader.proofs.scanning.+array+member+object+value.Lts-value as value-lts
+use Rattle.chars.proofs.peek.Reads as peek-reads
+use Rattle.chars.proofs.begins.Reads as begins-reads
+use Rattle.chars.proofs.skip.Reads as skip-reads
+use Rattle.reader.proofs.names.name.Reads as name-reads
+use Rattle.reader.proofs.names.pack.Reads as pack-reads
+use Rattle.reader.proofs.scanning.leaf.Reads as leaf-reads
+use Rattle.reader.proofs.scanning.refuse.Reads as refuse-reads
+use Rattle.reader.proofs.scanning.+array+member+object+value.{statement}
+use Rattle.reader.proofs.scanning.+array+member+object+value.Tie.{close}
+
+abbrev μ-array : Measures 2 array-kinds.ps ℕ
+μ-array κs a = 3 * a .1 .1 .1 .1 .0 + 2
+
+abbrev μ-member : Measures 2 member-kinds.ps ℕ
+μ-member κs a = 3 * a .1 .1 .1 .1 .1 .0 + 1
+
+abbrev μ-object : Measures 2 object-kinds.ps ℕ
+μ-object κs a = 3 * a .1 .1 .1 .1 .0 + 2
+
+abbrev μ-value : Measures 2 value-kinds.ps ℕ
+μ-value κs a = 3 * a .1 .1 .1 .1 .0
+
+abbrev array-at : ℕ → In 2 array-kinds.ps
+array-at t = and 2 array-kinds.ps (is 2 array-kinds.ps μ-array t) array.Pre
+
+abbrev array-below : ℕ → In 2 array-kinds.ps
+array-below t = and 2 array-kinds.ps (falls 2 array-kinds.ps _<_ μ-array t) array.Pre
+
+abbrev member-at : ℕ → In 2 member-kinds.ps
+member-at t = and 2 member-kinds.ps (is 2 member-kinds.ps μ-member t) member.Pre
+
+abbrev member-below : ℕ → In 2 member-kinds.ps
+member-below t = and 2 member-kinds.ps (falls 2 member-kinds.ps _<_ μ-member t) member.Pre
+
+abbrev object-at : ℕ → In 2 object-kinds.ps
+object-at t = and 2 object-kinds.ps (is 2 object-kinds.ps μ-object t) object.Pre
+
+abbrev object-below : ℕ → In 2 object-kinds.ps
+object-below t = and 2 object-kinds.ps (falls 2 object-kinds.ps _<_ μ-object t) object.Pre
+
+abbrev value-at : ℕ → In 2 value-kinds.ps
+value-at t = and 2 value-kinds.ps (is 2 value-kinds.ps μ-value t) value.Pre
+
+abbrev value-below : ℕ → In 2 value-kinds.ps
+value-below t = and 2 value-kinds.ps (falls 2 value-kinds.ps _<_ μ-value t) value.Pre
+
+-- ---- array
+
+abbrev array-claims : ℕ → array-lts.Claims
+array-claims t = (skip-reads.Asked, skip-reads.Learnt, peek-reads.Asked, peek-reads.Learnt, value-below t, value.Post, refuse-reads.Asked, refuse-reads.Learnt)
+
+abbrev array-Inv-loop : array-lts.InvT-loop
+array-Inv-loop text names₀ top at depth i₀ rows₀ names i rows = InArray text depth at top names₀ names rows i
+
+abbrev array-μ-loop : array-lts.MeasureT-loop
+array-μ-loop text names₀ top at depth i₀ rows₀ names i rows = length text - i
+
+module _ (t : ℕ) where
+  -- behind the space after the opening byte
+  array-opened : (c : array-lts.After-peek (array-claims t) (array-at t) array.Post array-Inv-loop array-μ-loop) →
+      let a = c .before .before .before .before .args in
+      Opened (a .text .now) (a .names .now) (a .top) (a .at) (c .before .skip .result) (c .peek .result)
+  array-opened c =
+      let p = c .before .before .before .before .pre .1 in
+      record { ready = p .0; opens = p .1; place = c .before .skip .ensures; byte = c .peek .ensures }
+
+  -- with one more element
+  array-turned : (c : array-lts.After-known-told2 (array-claims t) (array-at t) array.Post array-Inv-loop array-μ-loop) →
+      let v = c .before .before .before .before .before in
+      let h = v .before .before in
+      let a = h .before .before .before .before .before .before .args in
+      ElementTurn (a .text .now) (a .depth) (a .at) (a .top) (a .names .now) (v .value .last .1 .0)
+      (h .loop .rows) (h .loop .i) (c .before .end .given .0 .0) (c .before .end .given .0 .1 .0)
+  array-turned c =
+      let v = c .before .before .before .before .before in
+      array-turn (v .before .before .loop .inv) (v .value .ensures) (v .value .kept .1 .0) (c .before .end .given .1)
+
+  array-add-skip : array-lts.Need-add-skip (array-claims t) (array-at t) array.Post array-Inv-loop array-μ-loop
+  array-add-skip c = omega arith
+
+  array-skip-requires : array-lts.Need-skip-requires (array-claims t) (array-at t) array.Post array-Inv-loop array-μ-loop
+  array-skip-requires c κs = tt
+
+  array-peek-requires : array-lts.Need-peek-requires (array-claims t) (array-at t) array.Post array-Inv-loop array-μ-loop
+  array-peek-requires c κs = tt
+
+  array-add-t17 : array-lts.Need-add-t17 (array-claims t) (array-at t) array.Post array-Inv-loop array-μ-loop
+  array-add-t17 c = omega (arith, opened-inside (array-opened (c .before)) (omega arith))
+
+  array-returns : array-lts.Need-returns (array-claims t) (array-at t) array.Post array-Inv-loop array-μ-loop
+  array-returns c = array-empty _ (array-opened (c .before)) (c .if1 .taken)
+
+  array-loop-holds : array-lts.Need-loop-holds (array-claims t) (array-at t) array.Post array-Inv-loop array-μ-loop
+  array-loop-holds c = array-first _ (array-opened (c .before)) (c .if1 .left)
+
+  array-value-requires : array-lts.Need-value-requires (array-claims t) (array-at t) array.Post array-Inv-loop array-μ-loop
+  array-value-requires c κs = (omega arith, array-ready (c .before .loop .inv))
+
+  array-enum-known-code : array-lts.Need-enum-known-code (array-claims t) (array-at t) array.Post array-Inv-loop array-μ-loop
+  array-enum-known-code c = search needs
+
+  array-same-length : array-lts.Need-same-length (array-claims t) (array-at t) array.Post array-Inv-loop array-μ-loop
+  array-same-length c = let v = c .before .before .before .before .before in v .value .kept .1 .0 ∙ v .before .before .loop .inv .along .long
+
+  array-returns-2 : array-lts.Need-returns-2 (array-claims t) (array-at t) array.Post array-Inv-loop array-μ-loop
+  array-returns-2 c =
+      let v = c .before .before .before .before .before in
+      array-refused (v .before .before .loop .inv) (v .value .ensures) (v .value .kept .1 .0) (c .before .code .given .1)
+
+  array-enum-known-end : array-lts.Need-enum-known-end (array-claims t) (array-at t) array.Post array-Inv-loop array-μ-loop
+  array-enum-known-end c = search needs
+
+  array-add-rows : array-lts.Need-add-rows (array-claims t) (array-at t) array.Post array-Inv-loop array-μ-loop
+  array-add-rows c = omega (arith, turn-takes (array-turned c))
+
+  array-skip-requires-2 : array-lts.Need-skip-requires-2 (array-claims t) (array-at t) array.Post array-Inv-loop array-μ-loop
+  array-skip-requires-2 c κs = tt
+
+  array-peek-requires-2 : array-lts.Need-peek-requires-2 (array-claims t) (array-at t) array.Post array-Inv-loop array-μ-loop
+  array-peek-requires-2 c κs = tt
+
+  array-add-t22 : array-lts.Need-add-t22 (array-claims t) (array-at t) array.Post array-Inv-loop array-μ-loop
+  array-add-t22 c = omega (arith, turn-inside (array-turned (c .before .before .before)) (c .before .before .skip2 .ensures) (c .before .peek2 .ensures) (omega arith))
+
+  array-same-length-2 : array-lts.Need-same-length-2 (array-claims t) (array-at t) array.Post array-Inv-loop array-μ-loop
+  array-same-length-2 c = array-turned (c .before .before .before) .along .long
+
+  array-returns-3 : array-lts.Need-returns-3 (array-claims t) (array-at t) array.Post array-Inv-loop array-μ-loop
+  array-returns-3 c = turn-close (array-turned (c .before .before .before)) (c .before .before .skip2 .ensures) (c .before .peek2 .ensures) (c .if2 .taken)
+
+  array-refuse-requires : array-lts.Need-refuse-requires (array-claims t) (array-at t) array.Post array-Inv-loop array-μ-loop
+  array-refuse-requires c κs = tt
+
+  array-same-length-3 : array-lts.Need-same-length-3 (array-claims t) (array-at t) array.Post array-Inv-loop array-μ-loop
+  array-same-length-3 c = array-turned (c .before .before .before .before .before) .along .long
+
+  array-returns-4 : array-lts.Need-returns-4 (array-claims t) (array-at t) array.Post array-Inv-loop array-μ-loop
+  array-returns-4 c =
+      let p = c .before .before .before in
+      turn-bad (array-turned (p .before .before)) (p .before .skip2 .ensures) (p .peek2 .ensures) (c .before .before .if2 .left) (c .before .if3 .taken) (c .refuse .ensures)
+
+  array-add-skip-2 : array-lts.Need-add-skip-2 (array-claims t) (array-at t) array.Post array-Inv-loop array-μ-loop
+  array-add-skip-2 c =
+      let p = c .before .before in
+      omega (arith, turn-inside (array-turned (p .before .before)) (p .before .skip2 .ensures) (p .peek2 .ensures) (omega arith))
+
+  array-skip-requires-3 : array-lts.Need-skip-requires-3 (array-claims t) (array-at t) array.Post array-Inv-loop array-μ-loop
+  array-skip-requires-3 c κs = tt
+
+  array-loop-less : array-lts.Need-loop-less (array-claims t) (array-at t) array.Post array-Inv-loop array-μ-loop
+  array-loop-less c =
+      let p = c .before .before .before in
+      omega (arith, turn-on (array-turned (p .before .before)) (p .before .skip2 .ensures) (p .peek2 .ensures) (c .before .if3 .left) (c .skip3 .ensures))
+
+  array-loop-again : array-lts.Need-loop-again (array-claims t) (array-at t) array.Post array-Inv-loop array-μ-loop
+  array-loop-again c =
+      let p = c .before .before .before in
+      array-next (array-turned (p .before .before)) (p .before .skip2 .ensures) (p .peek2 .ensures) (c .before .if3 .left) (c .skip3 .ensures)
+
+-- ---- member
+
+abbrev member-claims : ℕ → member-lts.Claims
+member-claims t = (
+  name-reads.Asked,
+  name-reads.Learnt,
+  pack-reads.Asked,
+  pack-reads.Learnt,
+  skip-reads.Asked,
+  skip-reads.Learnt,
+  peek-reads.Asked,
+  peek-reads.Learnt,
+  refuse-reads.Asked,
+  refuse-reads.Learnt,
+  value-below t,
+  value.Post,
+)
+
+module _ (t : ℕ) where
+  -- a name was read
+  member-name : (c : member-lts.After-known-told2 (member-claims t) (member-at t) member.Post) →
+      let a = c .before .before .before .before .before .before .before .args in
+      NameRead (a .text .now) (slice (a .top) (a .count) (a .names .now)) (a .at) (c .before .e .given .0 .1 .0)
+  member-name c = name-read (c .before .before .before .name .ensures) (c .before .e .given .1)
+
+  -- its word is on the stack, and a colon stands behind it
+  member-named : (c : member-lts.After-skip2 (member-claims t) (member-at t) member.Post) →
+      let w = c .before .before .before .before in
+      let a = w .before .before .before .before .before .before .before .before .args in
+      Named (a .text .now) (a .names .now) (a .top) (a .count) (a .at) (w .pack .result) (c .skip2 .result)
+  member-named c =
+      let w = c .before .before .before .before in
+      record {
+        ready = w .before .before .before .before .before .before .before .before .pre .1;
+        end = w .before .before .e .given .0 .1 .0;
+        name = member-name (w .before);
+        word = w .pack .ensures;
+        colon = c .before .before .before .skip .result;
+        place = c .before .before .before .skip .ensures;
+        sign = sym (c .before .before .peek .ensures) ∙ c .before .if1 .left;
+        starts = c .skip2 .ensures;
+      }
+
+  member-name-requires : member-lts.Need-name-requires (member-claims t) (member-at t) member.Post
+  member-name-requires c κs = c .before .before .before .pre .1 .names
+
+  member-enum-known-code : member-lts.Need-enum-known-code (member-claims t) (member-at t) member.Post
+  member-enum-known-code c = search needs
+
+  member-enum-known-e : member-lts.Need-enum-known-e (member-claims t) (member-at t) member.Post
+  member-enum-known-e c = search needs
+
+  member-pack-requires : member-lts.Need-pack-requires (member-claims t) (member-at t) member.Post
+  member-pack-requires c κs = let n = member-name c in (omega arith, omega arith)
+
+  member-mul-names : member-lts.Need-mul-names (member-claims t) (member-at t) member.Post
+  member-mul-names c = omega arith
+
+  member-slice-write-names : member-lts.Need-slice-write-names (member-claims t) (member-at t) member.Post
+  member-slice-write-names c = omega arith
+
+  member-skip-requires : member-lts.Need-skip-requires (member-claims t) (member-at t) member.Post
+  member-skip-requires c κs = tt
+
+  member-peek-requires : member-lts.Need-peek-requires (member-claims t) (member-at t) member.Post
+  member-peek-requires c κs = tt
+
+  member-refuse-requires : member-lts.Need-refuse-requires (member-claims t) (member-at t) member.Post
+  member-refuse-requires c κs = tt
+
+  member-same-length : member-lts.Need-same-length (member-claims t) (member-at t) member.Post
+  member-same-length c = simp length-set
+
+  member-returns : member-lts.Need-returns (member-claims t) (member-at t) member.Post
+  member-returns c =
+      let p = c .before .before in
+      told-bare _ _ (member-name (p .before .before .before)) (p .before .skip .ensures) (λ q. c .before .if1 .taken (p .peek .ensures ∙ q)) (c .refuse .ensures)
+
+  member-add-skip : member-lts.Need-add-skip (member-claims t) (member-at t) member.Post
+  member-add-skip c = omega (arith, name-behind (member-name (c .before .before .before .before)) (c .before .peek .ensures) (omega arith))
+
+  member-skip-requires-2 : member-lts.Need-skip-requires-2 (member-claims t) (member-at t) member.Post
+  member-skip-requires-2 c κs = tt
+
+  member-add-value : member-lts.Need-add-value (member-claims t) (member-at t) member.Post
+  member-add-value c = omega arith
+
+  member-value-requires : member-lts.Need-value-requires (member-claims t) (member-at t) member.Post
+  member-value-requires c κs = (omega arith, named-ready (member-named (c .before)) .1)
+
+  member-enum-known-code-2 : member-lts.Need-enum-known-code-2 (member-claims t) (member-at t) member.Post
+  member-enum-known-code-2 c = search needs
+
+  member-enum-known-end : member-lts.Need-enum-known-end (member-claims t) (member-at t) member.Post
+  member-enum-known-end c = search needs
+
+  member-add-t29 : member-lts.Need-add-t29 (member-claims t) (member-at t) member.Post
+  member-add-t29 c =
+      let v = c .before .before .before .before .before in
+      omega (arith, named-rows _ (member-named (v .before .before)) (v .value .ensures) (c .before .end .given .1))
+
+  member-same-length-2 : member-lts.Need-same-length-2 (member-claims t) (member-at t) member.Post
+  member-same-length-2 c = search needs
+
+  member-returns-2 : member-lts.Need-returns-2 (member-claims t) (member-at t) member.Post
+  member-returns-2 c = told-unnamed _ (c .before .before .before .name .ensures) (c .before .code .given .1)
+
+  member-same-length-3 : member-lts.Need-same-length-3 (member-claims t) (member-at t) member.Post
+  member-same-length-3 c = c .before .before .before .before .before .value .kept .1 .0 ∙ simp length-set
+
+  member-returns-3 : member-lts.Need-returns-3 (member-claims t) (member-at t) member.Post
+  member-returns-3 c =
+      let v = c .before .before .before .before .before in
+      told-refused _ (member-named (v .before .before)) (v .value .ensures) (c .before .code2 .given .1)
+
+  member-same-length-4 : member-lts.Need-same-length-4 (member-claims t) (member-at t) member.Post
+  member-same-length-4 c = c .before .before .before .before .before .value .kept .1 .0 ∙ simp length-set
+
+  member-returns-4 : member-lts.Need-returns-4 (member-claims t) (member-at t) member.Post
+  member-returns-4 c =
+      let v = c .before .before .before .before .before in
+      told-member _ (member-named (v .before .before)) (v .value .ensures) (v .value .kept .1 .0) (c .before .end .given .1)
+
+-- ---- object
+
+abbrev object-claims : ℕ → object-lts.Claims
+object-claims t = (skip-reads.Asked, skip-reads.Learnt, peek-reads.Asked, peek-reads.Learnt, member-below t, member.Post, refuse-reads.Asked, refuse-reads.Learnt)
+
+abbrev object-Inv-loop : object-lts.InvT-loop
+object-Inv-loop text names₀ top at depth i₀ rows₀ count₀ names i rows count = InObject text depth at top names₀ names rows count i
+
+abbrev object-μ-loop : object-lts.MeasureT-loop
+object-μ-loop text names₀ top at depth i₀ rows₀ count₀ names i rows count = length text - i
+
+module _ (t : ℕ) where
+  -- behind the space after the opening byte
+  object-opened : (c : object-lts.After-peek (object-claims t) (object-at t) object.Post object-Inv-loop object-μ-loop) →
+      let a = c .before .before .before .before .args in
+      Opened (a .text .now) (a .names .now) (a .top) (a .at) (c .before .skip .result) (c .peek .result)
+  object-opened c =
+      let p = c .before .before .before .before .pre .1 in
+      record { ready = p .0; opens = p .1; place = c .before .skip .ensures; byte = c .peek .ensures }
+
+  -- with one more member
+  object-turned : (c : object-lts.After-known-told2 (object-claims t) (object-at t) object.Post object-Inv-loop object-μ-loop) →
+      let v = c .before .before .before .before .before in
+      let h = v .before .before in
+      let a = h .before .before .before .before .before .before .args in
+      MemberTurn (a .text .now) (a .depth) (a .at) (a .top) (a .names .now) (v .member .last .1 .0)
+      (h .loop .rows) (h .loop .count) (h .loop .i) (c .before .end .given .0 .0) (c .before .end .given .0 .1 .0)
+  object-turned c =
+      let v = c .before .before .before .before .before in
+      object-turn (v .before .before .loop .inv) (v .member .ensures) (v .member .kept .1 .0) (c .before .end .given .1)
+
+  object-add-skip : object-lts.Need-add-skip (object-claims t) (object-at t) object.Post object-Inv-loop object-μ-loop
+  object-add-skip c = omega arith
+
+  object-skip-requires : object-lts.Need-skip-requires (object-claims t) (object-at t) object.Post object-Inv-loop object-μ-loop
+  object-skip-requires c κs = tt
+
+  object-peek-requires : object-lts.Need-peek-requires (object-claims t) (object-at t) object.Post object-Inv-loop object-μ-loop
+  object-peek-requires c κs = tt
+
+  object-add-t18 : object-lts.Need-add-t18 (object-claims t) (object-at t) object.Post object-Inv-loop object-μ-loop
+  object-add-t18 c = omega (arith, opened-inside (object-opened (c .before)) (omega arith))
+
+  object-returns : object-lts.Need-returns (object-claims t) (object-at t) object.Post object-Inv-loop object-μ-loop
+  object-returns c = object-empty _ (object-opened (c .before)) (c .if1 .taken)
+
+  object-loop-holds : object-lts.Need-loop-holds (object-claims t) (object-at t) object.Post object-Inv-loop object-μ-loop
+  object-loop-holds c = object-first _ (object-opened (c .before)) (c .if1 .left)
+
+  object-member-requires : object-lts.Need-member-requires (object-claims t) (object-at t) object.Post object-Inv-loop object-μ-loop
+  object-member-requires c κs = (omega arith, object-ready (c .before .loop .inv))
+
+  object-enum-known-code : object-lts.Need-enum-known-code (object-claims t) (object-at t) object.Post object-Inv-loop object-μ-loop
+  object-enum-known-code c = search needs
+
+  object-same-length : object-lts.Need-same-length (object-claims t) (object-at t) object.Post object-Inv-loop object-μ-loop
+  object-same-length c = let v = c .before .before .before .before .before in v .member .kept .1 .0 ∙ v .before .before .loop .inv .along .long
+
+  object-returns-2 : object-lts.Need-returns-2 (object-claims t) (object-at t) object.Post object-Inv-loop object-μ-loop
+  object-returns-2 c =
+      let v = c .before .before .before .before .before in
+      object-refused (v .before .before .loop .inv) (v .member .ensures) (v .member .kept .1 .0) (c .before .code .given .1)
+
+  object-enum-known-end : object-lts.Need-enum-known-end (object-claims t) (object-at t) object.Post object-Inv-loop object-μ-loop
+  object-enum-known-end c = search needs
+
+  object-add-rows : object-lts.Need-add-rows (object-claims t) (object-at t) object.Post object-Inv-loop object-μ-loop
+  object-add-rows c = omega (arith, turn-takes (object-turned c .turn))
+
+  object-add-count : object-lts.Need-add-count (object-claims t) (object-at t) object.Post object-Inv-loop object-μ-loop
+  object-add-count c = omega (arith, turn-takes (object-turned c .turn), object-turned c .below)
+
+  object-skip-requires-2 : object-lts.Need-skip-requires-2 (object-claims t) (object-at t) object.Post object-Inv-loop object-μ-loop
+  object-skip-requires-2 c κs = tt
+
+  object-peek-requires-2 : object-lts.Need-peek-requires-2 (object-claims t) (object-at t) object.Post object-Inv-loop object-μ-loop
+  object-peek-requires-2 c κs = tt
+
+  object-add-t23 : object-lts.Need-add-t23 (object-claims t) (object-at t) object.Post object-Inv-loop object-μ-loop
+  object-add-t23 c = omega (arith, turn-inside (object-turned (c .before .before .before) .turn) (c .before .before .skip2 .ensures) (c .before .peek2 .ensures) (omega arith))
+
+  object-same-length-2 : object-lts.Need-same-length-2 (object-claims t) (object-at t) object.Post object-Inv-loop object-μ-loop
+  object-same-length-2 c = object-turned (c .before .before .before) .turn .along .long
+
+  object-returns-3 : object-lts.Need-returns-3 (object-claims t) (object-at t) object.Post object-Inv-loop object-μ-loop
+  object-returns-3 c = turn-close (object-turned (c .before .before .before) .turn) (c .before .before .skip2 .ensures) (c .before .peek2 .ensures) (c .if2 .taken)
+
+  object-refuse-requires : object-lts.Need-refuse-requires (object-claims t) (object-at t) object.Post object-Inv-loop object-μ-loop
+  object-refuse-requires c κs = tt
+
+  object-same-length-3 : object-lts.Need-same-length-3 (object-claims t) (object-at t) object.Post object-Inv-loop object-μ-loop
+  object-same-length-3 c = object-turned (c .before .before .before .before .before) .turn .along .long
+
+  object-returns-4 : object-lts.Need-returns-4 (object-claims t) (object-at t) object.Post object-Inv-loop object-μ-loop
+  object-returns-4 c =
+      let p = c .before .before .before in
+      turn-bad (object-turned (p .before .before) .turn) (p .before .skip2 .ensures) (p .peek2 .ensures) (c .before .before .if2 .left) (c .before .if3 .taken) (c .refuse .ensures)
+
+  object-add-skip-2 : object-lts.Need-add-skip-2 (object-claims t) (object-at t) object.Post object-Inv-loop object-μ-loop
+  object-add-skip-2 c =
+      let p = c .before .before in
+      omega (arith, turn-inside (object-turned (p .before .before) .turn) (p .before .skip2 .ensures) (p .peek2 .ensures) (omega arith))
+
+  object-skip-requires-3 : object-lts.Need-skip-requires-3 (object-claims t) (object-at t) object.Post object-Inv-loop object-μ-loop
+  object-skip-requires-3 c κs = tt
+
+  object-loop-less : object-lts.Need-loop-less (object-claims t) (object-at t) object.Post object-Inv-loop object-μ-loop
+  object-loop-less c =
+      let p = c .before .before .before in
+      omega (arith, turn-on (object-turned (p .before .before) .turn) (p .before .skip2 .ensures) (p .peek2 .ensures) (c .before .if3 .left) (c .skip3 .ensures))
+
+  object-loop-again : object-lts.Need-loop-again (object-claims t) (object-at t) object.Post object-Inv-loop object-μ-loop
+  object-loop-again c =
+      let p = c .before .before .before in
+      object-next (object-turned (p .before .before)) (p .before .skip2 .ensures) (p .peek2 .ensures) (c .before .if3 .left) (c .skip3 .ensures)
+
+-- ---- value
+
+abbrev value-claims : ℕ → value-lts.Claims
+value-claims t = (peek-reads.Asked, peek-reads.Learnt, begins-reads.Asked, begins-reads.Learnt, array-below t, array.Post, object-below t, object.Post, leaf-reads.Asked, leaf-reads.Learnt)
+
+module _ (t : ℕ) where
+  -- what the first byte begins
+  value-begun : (c : value-lts.After-begins (value-claims t) (value-at t) value.Post) →
+      let a = c .before .before .before .before .args in
+      Begun (a .text .now) (a .at) (c .begins .result)
+  value-begun c = record { first = c .begins .ensures ∙ ap firstOf (c .before .peek .ensures) }
+
+  value-peek-requires : value-lts.Need-peek-requires (value-claims t) (value-at t) value.Post
+  value-peek-requires c κs = tt
+
+  value-begins-requires : value-lts.Need-begins-requires (value-claims t) (value-at t) value.Post
+  value-begins-requires c κs = tt
+
+  value-enum-told : value-lts.Need-enum-told (value-claims t) (value-at t) value.Post
+  value-enum-told c = search needs
+
+  value-returns : value-lts.Need-returns (value-claims t) (value-at t) value.Post
+  value-returns c = array-deep (value-begun (c .before .before .before)) _ (c .before .enum-told .given .1) (c .if1 .taken)
+
+  value-sub-array : value-lts.Need-sub-array (value-claims t) (value-at t) value.Post
+  value-sub-array c = omega (arith, c .before .if1 .left)
+
+  value-array-requires : value-lts.Need-array-requires (value-claims t) (value-at t) value.Post
+  value-array-requires c κs =
+      let b = c .before .before .before .before in
+      (omega (arith, c .before .if1 .left), (b .before .before .before .before .pre .1, array-in (value-begun b) (c .before .before .enum-told .given .1)))
+
+  value-enum-told-2 : value-lts.Need-enum-told-2 (value-claims t) (value-at t) value.Post
+  value-enum-told-2 c = search needs
+
+  value-returns-2 : value-lts.Need-returns-2 (value-claims t) (value-at t) value.Post
+  value-returns-2 c = object-deep (value-begun (c .before .before .before)) _ (c .before .enum-told2 .given .1) (c .if2 .taken)
+
+  value-sub-object : value-lts.Need-sub-object (value-claims t) (value-at t) value.Post
+  value-sub-object c = omega (arith, c .before .if2 .left)
+
+  value-object-requires : value-lts.Need-object-requires (value-claims t) (value-at t) value.Post
+  value-object-requires c κs =
+      let b = c .before .before .before .before in
+      (omega (arith, c .before .if2 .left), (b .before .before .before .before .pre .1, object-in (value-begun b) (c .before .before .enum-told2 .given .1)))
+
+  value-leaf-requires : value-lts.Need-leaf-requires (value-claims t) (value-at t) value.Post
+  value-leaf-requires c κs = tt
+
+  value-same-length : value-lts.Need-same-length (value-claims t) (value-at t) value.Post
+  value-same-length c = c .before .before .array .kept .1 .0
+
+  value-returns-3 : value-lts.Need-returns-3 (value-claims t) (value-at t) value.Post
+  value-returns-3 c =
+      let l = c .before .before .before .before in
+      told-array (value-begun (l .before .before .before)) _ (l .before .enum-told .given .1) (l .if1 .left) (c .before .before .array .ensures)
+
+  value-same-length-2 : value-lts.Need-same-length-2 (value-claims t) (value-at t) value.Post
+  value-same-length-2 c = c .before .before .object .kept .1 .0
+
+  value-returns-4 : value-lts.Need-returns-4 (value-claims t) (value-at t) value.Post
+  value-returns-4 c =
+      let l = c .before .before .before .before in
+      told-object (value-begun (l .before .before .before)) _ (l .before .enum-told2 .given .1) (l .if2 .left) (c .before .before .object .ensures)
+
+  value-returns-5 : value-lts.Need-returns-5 (value-claims t) (value-at t) value.Post
+  value-returns-5 c = told-leaf (value-begun (c .before .before)) _ (c .before .match .keys3) (c .leaf .ensures)
+
+pub +array+member+object+value-spec : {M : Type 1} → statement M
++array+member+object+value-spec = close μ-array μ-member μ-object μ-value (λ t. array-lts.spec (array-claims t) (array-at t)
+    array.Post
+    array-Inv-loop
+    array-μ-loop
+    (array-add-skip t)
+    (array-skip-requires t)
+    (array-peek-requires t)
+    (array-add-t17 t)
+    (array-returns t)
+    (array-loop-holds t)
+    (array-value-requires t)
+    (array-enum-known-code t)
+    (array-same-length t)
+    (array-returns-2 t)
+    (array-enum-known-end t)
+    (array-add-rows t)
+    (array-skip-requires-2 t)
+    (array-peek-requires-2 t)
+    (array-add-t22 t)
+    (array-same-length-2 t)
+    (array-returns-3 t)
+    (array-refuse-requires t)
+    (array-same-length-3 t)
+    (array-returns-4 t)
+    (array-add-skip-2 t)
+    (array-skip-requires-3 t)
+    (array-loop-less t)
+    (array-loop-again t))
+    (λ t. member-lts.spec (member-claims t) (member-at t)
+    member.Post
+    (member-name-requires t)
+    (member-enum-known-code t)
+    (member-enum-known-e t)
+    (member-pack-requires t)
+    (member-mul-names t)
+    (member-slice-write-names t)
+    (member-skip-requires t)
+    (member-peek-requires t)
+    (member-refuse-requires t)
+    (member-same-length t)
+    (member-returns t)
+    (member-add-skip t)
+    (member-skip-requires-2 t)
+    (member-add-value t)
+    (member-value-requires t)
+    (member-enum-known-code-2 t)
+    (member-enum-known-end t)
+    (member-add-t29 t)
+    (member-same-length-2 t)
+    (member-returns-2 t)
+    (member-same-length-3 t)
+    (member-returns-3 t)
+    (member-same-length-4 t)
+    (member-returns-4 t))
+    (λ t. object-lts.spec (object-claims t) (object-at t)
+    object.Post
+    object-Inv-loop
+    object-μ-loop
+    (object-add-skip t)
+    (object-skip-requires t)
+    (object-peek-requires t)
+    (object-add-t18 t)
+    (object-returns t)
+    (object-loop-holds t)
+    (object-member-requires t)
+    (object-enum-known-code t)
+    (object-same-length t)
+    (object-returns-2 t)
+    (object-enum-known-end t)
+    (object-add-rows t)
+    (object-add-count t)
+    (object-skip-requires-2 t)
+    (object-peek-requires-2 t)
+    (object-add-t23 t)
+    (object-same-length-2 t)
+    (object-returns-3 t)
+    (object-refuse-requires t)
+    (object-same-length-3 t)
+    (object-returns-4 t)
+    (object-add-skip-2 t)
+    (object-skip-requires-3 t)
+    (object-loop-less t)
+    (object-loop-again t))
+    λ t. value-lts.spec (value-claims t) (value-at t)
+    value.Post
+    (value-peek-requires t)
+    (value-begins-requires t)
+    (value-enum-told t)
+    (value-returns t)
+    (value-sub-array t)
+    (value-array-requires t)
+    (value-enum-told-2 t)
+    (value-returns-2 t)
+    (value-sub-object t)
+    (value-object-requires t)
+    (value-leaf-requires t)
+    (value-same-length t)
+    (value-returns-3 t)
+    (value-same-length-2 t)
+    (value-returns-4 t)
+    (value-returns-5 t)

@@ -1,0 +1,12 @@
+// Read (01, "Three services"): the first pass judges a text, the second writes its rows.
+mod answers;
+mod filling;
+mod limits;
+mod names;
+mod reading;
+mod scanning;
+
+pub use answers::Answer;
+pub use limits::Limits;
+pub use reading::read;
+pub use reading::read_within;
