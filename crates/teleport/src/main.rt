@@ -1,0 +1,48 @@
+// The program of 01 ("The program"): a command and its files as arguments, and one line as the
+// answer. Each command is a function that loads all its files before its service begins, so that
+// `no file` stands before any code.
+mod files;
+mod lines;
+
+use files::Loaded;
+
+// One byte over the limit of a text (65,536), so that a longer file gives the service a text over
+// its limit.
+const TEXT: usize = 65537;
+
+// 01: "Its tables have 16,380 words each".
+const TABLE: usize = 16380;
+
+// `read FILE`.
+fn read() {
+    let mut text = [0u8; TEXT];
+    let Loaded::Bytes(n) = files::load(2, &mut text) else {
+        lines::no_file();
+        return;
+    };
+    let mut table = [0u32; TABLE];
+    lines::answer(reader::read(&text[..n], &mut table));
+}
+
+// Whether the program was started with this command, and with as many arguments as it takes: its
+// own name and the command among them.
+fn asks(command: &[u8], count: usize) -> bool {
+    if os::arg_count() != count {
+        return false;
+    }
+    // room for the longest command, and a longer word is none
+    let mut word = [0u8; 8];
+    let n = os::arg(1, &mut word);
+    if os::errno() != 0 {
+        return false;
+    }
+    check::same(&word[..n], command)
+}
+
+fn main() {
+    if asks(b"read", 3) {
+        read();
+    } else {
+        lines::no_file();
+    }
+}

@@ -1,0 +1,21 @@
+// The library for callers in other languages: a slice is a pointer and a length.
+ghost use mathlib.Core.Path.{_≡_};
+ghost use lib.ListN.{length};
+ghost use Rattle.reader.specs.Answer.{documentLimits, readWithin, answerOf, tableOf};
+ghost use Rattle.teleport_c.specs.Words.{answerWords};
+
+// The four numbers of an answer.
+fn words(a: reader::Answer) -> [u32; 4]
+    ensures { λ r. ⌜ r ≡ answerWords a ⌝ }
+{
+    [a.code, a.text, a.place, a.other]
+}
+
+// Read (01, "Three services").
+#[no_mangle]
+pub extern "C" fn teleport_read(text: &[u8], table: &mut [u32], answer: &mut [u32; 4])
+    ensures answers { λ _. ⌜ now (answer .exit) ≡ answerWords (answerOf 1 (length (now (table .entry))) (readWithin documentLimits (now (text .entry)))) ⌝ }
+    ensures rows { λ _. ⌜ now (table .exit) ≡ tableOf (now (table .entry)) (readWithin documentLimits (now (text .entry))) ⌝ }
+{
+    *answer = words(reader::read(text, table));
+}

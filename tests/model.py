@@ -1,0 +1,377 @@
+"""A model of the service Read, to be read beside the paper.
+
+read() gives the answer (code, text, place, other) and fills the table.
+value() gives the JSON value that a well-formed text spells.
+"""
+
+# Limits of a document; those of a schema are 16384 bytes and 24 brackets.
+DOCUMENT_LIMIT, DOCUMENT_DEPTH = 65536, 32
+SCHEMA_LIMIT, SCHEMA_DEPTH = 16384, 24
+
+ROW_WORDS = 5
+
+# Kinds of rows.
+NULL, FALSE, TRUE, INTEGER, OTHER_NUMBER, STRING, ARRAY, OBJECT, NAME = range(1, 10)
+
+# Codes of Read.
+READ, TOO_LONG, ENDED, NOT_ALLOWED, NOT_UTF8, NO_PARTNER, NAME_TWICE, TOO_DEEP, NO_ROOM = range(9)
+
+SPACE = b" \t\n\r"
+DIGITS = b"0123456789"
+HEX_DIGITS = b"0123456789abcdefABCDEF"
+LOW_SECOND_DIGITS = b"cdefCDEF"  # second hex digit of DC00 to DFFF
+SHORT_ESCAPES = {
+    ord('"'): 0x22, ord("\\"): 0x5C, ord("/"): 0x2F, ord("b"): 0x08,
+    ord("f"): 0x0C, ord("n"): 0x0A, ord("r"): 0x0D, ord("t"): 0x09,
+}
+
+
+class Refusal(Exception):
+    """The first offence from left to right: codes 2 to 7 and the place."""
+
+    def __init__(self, code, place):
+        super().__init__(code, place)
+        self.code = code
+        self.place = place
+
+
+def read(text, table, limit=DOCUMENT_LIMIT, depth=DOCUMENT_DEPTH, which=1):
+    """Order: length (1), then the first offence (2 to 7), then room (8)."""
+    if len(text) > limit:
+        return (TOO_LONG, which, limit, 0)
+    try:
+        rows = Reader(text, depth).read_text()[0]
+    except Refusal as refusal:
+        return (refusal.code, which, refusal.place, 0)
+    if len(rows) > len(table) // ROW_WORDS:
+        return (NO_ROOM, which, 0, len(rows))
+    write_rows(rows, table)
+    return (READ, 0, 0, len(rows))
+
+
+def write_rows(rows, table):
+    """The words behind the last row stay as found."""
+    for number, row in enumerate(rows):
+        start = ROW_WORDS * number
+        table[start:start + ROW_WORDS] = row
+
+
+def value(text, depth=DOCUMENT_DEPTH):
+    """The JSON value of a well-formed text, as a pair of a tag and content.
+
+    ("null", None)      ("boolean", True or False)
+    ("number", bytes)   as spelled
+    ("string", [scalar values])
+    ("array", [values])
+    ("object", [(name as a list of scalar values, value)])
+
+    A text that is not well-formed raises Refusal.
+    """
+    return Reader(text, depth).read_text()[1]
+
+
+class Reader:
+    """Reads one text from left to right, keeping its rows."""
+
+    def __init__(self, text, depth):
+        self.text = text
+        self.place = 0
+        self.brackets_left = depth
+        self.rows = []
+
+    def read_text(self):
+        """Space, one value of any kind, space, and nothing behind."""
+        self.skip_space()
+        found = self.read_value()
+        self.skip_space()
+        if self.place < len(self.text):
+            self.refuse(NOT_ALLOWED)
+        return self.rows, found
+
+    # Bytes.
+
+    def byte(self):
+        """The byte at the place; a text that ends here ended early (2)."""
+        if self.place == len(self.text):
+            self.refuse(ENDED)
+        return self.text[self.place]
+
+    def next_is_one_of(self, allowed):
+        """Whether the text goes on with one of these bytes."""
+        return self.place < len(self.text) and self.text[self.place] in allowed
+
+    def take(self, allowed, code=NOT_ALLOWED):
+        """Passes one of the allowed bytes; any other is the code given."""
+        byte = self.byte()
+        if byte not in allowed:
+            self.refuse(code)
+        self.place += 1
+        return byte
+
+    def refuse(self, code):
+        raise Refusal(code, self.place)
+
+    def skip_space(self):
+        while self.next_is_one_of(SPACE):
+            self.place += 1
+
+    # Rows.
+
+    def open_row(self, kind):
+        """Adds a row whose first byte is here; rows stand in this order."""
+        row = [kind, self.place, 0, 0, 0]
+        self.rows.append(row)
+        return len(self.rows) - 1
+
+    def close_row(self, number, children=0):
+        """Sets byte after the last, direct children, rows of the subtree."""
+        row = self.rows[number]
+        row[2] = self.place
+        row[3] = children
+        row[4] = len(self.rows) - number
+
+    # Values.
+
+    def read_value(self):
+        """The first byte of a value decides what is read."""
+        byte = self.byte()
+        if byte == ord("n"):
+            return self.read_literal(b"null", NULL, ("null", None))
+        if byte == ord("f"):
+            return self.read_literal(b"false", FALSE, ("boolean", False))
+        if byte == ord("t"):
+            return self.read_literal(b"true", TRUE, ("boolean", True))
+        if byte == ord("-") or byte in DIGITS:
+            return self.read_number()
+        if byte == ord('"'):
+            return self.read_string()
+        if byte == ord("["):
+            return self.read_array()
+        if byte == ord("{"):
+            return self.read_object()
+        self.refuse(NOT_ALLOWED)
+
+    def read_literal(self, word, kind, found):
+        row = self.open_row(kind)
+        for byte in word:
+            self.take([byte])
+        self.close_row(row)
+        return found
+
+    def read_number(self):
+        """Kind 4 without fraction or exponent, else kind 5."""
+        row = self.open_row(INTEGER)
+        first = self.place
+        self.read_integer_part()
+        if self.next_is_one_of(b"."):
+            self.rows[row][0] = OTHER_NUMBER
+            self.place += 1
+            self.read_digits()
+        if self.next_is_one_of(b"eE"):
+            self.rows[row][0] = OTHER_NUMBER
+            self.place += 1
+            if self.next_is_one_of(b"+-"):
+                self.place += 1
+            self.read_digits()
+        self.close_row(row)
+        return ("number", bytes(self.text[first:self.place]))
+
+    def read_integer_part(self):
+        """Perhaps a minus, then 0 alone or digits that begin with 1 to 9."""
+        if self.next_is_one_of(b"-"):
+            self.place += 1
+        if self.take(DIGITS) != ord("0"):
+            while self.next_is_one_of(DIGITS):
+                self.place += 1
+        elif self.next_is_one_of(DIGITS):
+            self.refuse(NOT_ALLOWED)
+
+    def read_digits(self):
+        """One digit or more."""
+        self.take(DIGITS)
+        while self.next_is_one_of(DIGITS):
+            self.place += 1
+
+    def open_bracket(self):
+        """One bracket more than the depth is too deep (7), at that bracket."""
+        if self.brackets_left == 0:
+            self.refuse(TOO_DEEP)
+        self.brackets_left -= 1
+        self.place += 1
+
+    def close_bracket(self):
+        self.brackets_left += 1
+        self.place += 1
+
+    def read_array(self):
+        row = self.open_row(ARRAY)
+        self.open_bracket()
+        elements = []
+        self.skip_space()
+        if self.byte() != ord("]"):
+            elements.append(self.read_element())
+            while self.byte() != ord("]"):
+                self.take(b",")
+                self.skip_space()
+                elements.append(self.read_element())
+        self.close_bracket()
+        self.close_row(row, len(elements))
+        return ("array", elements)
+
+    def read_element(self):
+        """A value and the space behind it."""
+        found = self.read_value()
+        self.skip_space()
+        return found
+
+    def read_object(self):
+        row = self.open_row(OBJECT)
+        self.open_bracket()
+        members = []
+        names = set()
+        self.skip_space()
+        if self.byte() != ord("}"):
+            members.append(self.read_member(names))
+            while self.byte() != ord("}"):
+                self.take(b",")
+                self.skip_space()
+                members.append(self.read_member(names))
+        self.close_bracket()
+        self.close_row(row, len(members))
+        return ("object", members)
+
+    def read_member(self, names):
+        """A name, a colon, a value, and the space behind each."""
+        name = self.read_name(names)
+        self.skip_space()
+        self.take(b":")
+        self.skip_space()
+        return (name, self.read_element())
+
+    # Strings and names. Their bytes include the quotes.
+
+    def read_string(self):
+        row = self.open_row(STRING)
+        self.take(b'"')
+        scalars = self.read_characters()
+        self.take(b'"')
+        self.close_row(row)
+        return ("string", scalars)
+
+    def read_name(self, names):
+        """A name that the object already has is 6, at its closing quote."""
+        row = self.open_row(NAME)
+        self.take(b'"')
+        scalars = self.read_characters()
+        if tuple(scalars) in names:
+            self.refuse(NAME_TWICE)
+        names.add(tuple(scalars))
+        self.take(b'"')
+        self.close_row(row)
+        return scalars
+
+    def read_characters(self):
+        """The scalar values up to the closing quote, which is not passed."""
+        scalars = []
+        while self.byte() != ord('"'):
+            scalars.append(self.read_character())
+        return scalars
+
+    def read_character(self):
+        byte = self.byte()
+        if byte < 0x20:
+            self.refuse(NOT_ALLOWED)
+        if byte == ord("\\"):
+            return self.read_escape()
+        if byte < 0x80:
+            self.place += 1
+            return byte
+        return self.read_utf8()
+
+    # UTF-8: no overlong form, no surrogate, nothing above 10FFFF.
+
+    def read_utf8(self):
+        """Code 4 lies at the first byte that cannot follow."""
+        lead = self.byte()
+        if begins_no_character(lead):
+            self.refuse(NOT_UTF8)
+        self.place += 1
+        scalar, ranges = split_lead(lead)
+        for first, last in ranges:
+            byte = self.take(range(first, last + 1), NOT_UTF8)
+            scalar = scalar * 64 + byte % 64
+        return scalar
+
+    # Escapes.
+
+    def read_escape(self):
+        self.take(b"\\")
+        byte = self.byte()
+        if byte in SHORT_ESCAPES:
+            self.place += 1
+            return SHORT_ESCAPES[byte]
+        if byte != ord("u"):
+            self.refuse_in_escape(byte)
+        self.place += 1
+        return self.read_four_digits()
+
+    def refuse_in_escape(self, byte):
+        """Bytes inside an escape are judged by UTF-8 too; 4 before 3."""
+        self.refuse(NOT_UTF8 if begins_no_character(byte) else NOT_ALLOWED)
+
+    def read_four_digits(self):
+        """A low surrogate coming first is 5 at its second hex digit."""
+        number = self.read_hex_digit()
+        if number == 0xD and self.byte() in LOW_SECOND_DIGITS:
+            self.refuse(NO_PARTNER)
+        for _ in range(3):
+            number = number * 16 + self.read_hex_digit()
+        if 0xD800 <= number <= 0xDBFF:
+            low = self.read_partner()
+            return 0x10000 + (number - 0xD800) * 0x400 + (low - 0xDC00)
+        return number
+
+    def read_partner(self):
+        """Behind a high surrogate the next four bytes are judged by 5."""
+        self.take(b"\\", NO_PARTNER)
+        self.take(b"u", NO_PARTNER)
+        self.take(b"Dd", NO_PARTNER)
+        second = self.take(LOW_SECOND_DIGITS, NO_PARTNER)
+        number = 0xD0 + hex_number(second)
+        for _ in range(2):
+            number = number * 16 + self.read_hex_digit()
+        return number
+
+    def read_hex_digit(self):
+        byte = self.byte()
+        if byte not in HEX_DIGITS:
+            self.refuse_in_escape(byte)
+        self.place += 1
+        return hex_number(byte)
+
+
+def hex_number(digit):
+    return int(chr(digit), 16)
+
+
+def begins_no_character(byte):
+    """Whether no UTF-8 character begins with this byte."""
+    return 0x80 <= byte <= 0xC1 or byte >= 0xF5
+
+
+def split_lead(lead):
+    """The bits of a lead byte (C2 to F4) and the ranges of what follows."""
+    rest = (0x80, 0xBF)
+    if lead <= 0xDF:
+        return lead - 0xC0, [rest]
+    if lead == 0xE0:
+        return 0, [(0xA0, 0xBF), rest]
+    if lead == 0xED:
+        return 0xD, [(0x80, 0x9F), rest]
+    if lead <= 0xEF:
+        return lead - 0xE0, [rest, rest]
+    if lead == 0xF0:
+        return 0, [(0x90, 0xBF), rest, rest]
+    if lead == 0xF4:
+        return 4, [(0x80, 0x8F), rest, rest]
+    return lead - 0xF0, [rest, rest, rest]
