@@ -1,3 +1,11 @@
 pub mod Basics
 pub mod Integers
+pub mod Deciding
+pub mod Formed
+pub mod Sound
+pub mod Samples
+pub mod Complete
 pub mod Examples
+pub mod DateExamples
+pub mod Theorem
+pub mod Starred

@@ -1,2 +1,6 @@
 pub mod Text
 pub mod Value
+pub mod Definition
+pub mod Date
+pub mod Meeting
+pub mod Subtype
