@@ -1,0 +1,752 @@
+-- The first mismatch of a value with a definition, on plain values: one law for each way out of the functions of `judging` (01, "Definitions": "First misfit").
+use Prim.Native.Nat.{ℕ, zero, suc, _+_, _-_, _≤_, _<_}
+use mathlib.Core.Path.{_≡_, refl, sym, ap, ap₂, subst, _∙_}
+use mathlib.Core.Bool.{Bool, true, false, cond}
+use mathlib.Core.Logic.{inl, inr}
+use mathlib.Core.Option.{Option, none, some}
+use mathlib.Core.List.{List, [], _∷_}
+use native.Mathlib.Omega.{arith}
+use native.Mathlib.Decide.{ℕ-discrete}
+use denote.Enum.Declared.{tagOf}
+use types.Run.{OneOf}
+use lib.Dec.{eqb}
+use borrow.Author.Tests.{eq-eqb, ne-eqb}
+use Rattle.model.specs.Text.{text, same}
+use Rattle.model.specs.Date.{isDate}
+use Rattle.model.specs.Meeting.{isSome}
+use Rattle.model.specs.Definition.{Named, JSON, Schema, Float, Integer, String, Boolean, DateTime, namedBy, definitionOf}
+use Rattle.chars.specs.Spelling.{IsQuoted}
+use Rattle.chars.specs.Tokens.{Kind, Null, False, True, Whole, Fractional, Quoted}
+use Rattle.reader.specs.Tree.{Node, scalar, array, object, Nodes, Members, no-member, member}
+use Rattle.reader.specs.Grammar.{nameOf}
+use Rattle.reader.specs.Spelling.{valueOf}
+use Rattle.reader.specs.Rows.{size, sizesMembers, countMembers}
+use Rattle.reader.specs.Holding.{word, Holds, Placed}
+use Rattle.schema.specs.Located.{Located, named-at, array-at, map-at, object-at, LocatedFields, no-field, placeOf}
+use Rattle.schema.specs.Located.{Defined, faulty, fine, mapped, typeAt, unshared, Part, wrong, part, bothFields, joined, sharedAt}
+use Rattle.schema.specs.Located.{constructed, definitionAt, singleAt, bodyAt, partAt, partOf, fieldsAt}
+use Rattle.schema.specs.Mismatch.{mismatch, nothing, orElse, unless, isWhole, isNumber, isString, isBoolean, ifScalar, dateAt, namedAt}
+use Rattle.schema.specs.Mismatch.{firstElement, firstMember, lookup, judged, missing, skipped, mismatchAt, fieldsMismatch}
+use Rattle.schema.specs.Names.{typeName, genericOf, takesKind}
+use Rattle.schema.specs.Walking.{InTable, Reads, Rowed, ObjectRow, Finds, PartRow, faultOf, Defines, Judgeable, Judged, JudgedDate}
+use Rattle.schema.specs.Walking.{ArrayJudgeable, MapJudgeable, BodyJudgeable, FieldsJudgeable, absence, FieldsJudged}
+use Rattle.schema.specs.declared.rows.Record.{Record}
+use Rattle.schema.specs.declared.definitions.Fault.{Fault}
+use Rattle.schema.specs.declared.judging.Mismatch.{Mismatch}
+use Rattle.schema.specs.declared.names.TypeName.{TypeName}
+use Rattle.schema.specs.declared.names.TypeName.the-variants.{Float as FloatName, Integer as IntegerName, Text as TextName, Boolean as BooleanName}
+use Rattle.schema.specs.declared.names.TypeName.the-variants.{Schema as SchemaName, DateTime as DateTimeName}
+use Rattle.schema.specs.declared.names.Generic.{Generic}
+use Rattle.schema.specs.declared.names.Generic.the-variants.{Array, Map, Object, Other}
+use Rattle.schema.proofs.names.TypeName.{the-type as type-names}
+use Rattle.schema.proofs.names.Generic.{the-type as generics}
+use Rattle.schema.proofs.Faults.{firstByte, located-first, fault-code}
+use Rattle.schema.proofs.Defining.{forget, definition-forgets, Added, added-fine}
+use Rattle.schema.proofs.Defines.{Sought, sought, partRows}
+use Rattle.schema.proofs.Trees.{kindOf, elementsIn, membersIn, row, string-row, array-row, object-row, kind-read, place-read, string-read}
+use Rattle.schema.proofs.Trees.{same-tree, as-row, row-object, as-object, part-object, same-part}
+use Rattle.schema.proofs.Trees.{MembersLeft, MemberHere, members-start, member-here, members-next, members-end, member-read}
+use Rattle.schema.proofs.Trees.{ValuesLeft, ValueHere, values-start, value-here, values-next, values-end}
+use Rattle.schema.proofs.Trees.{ElementsLeft, ElementHere, elements-start, element-here, elements-next, elements-end}
+use Rattle.schema.proofs.Trees.{Found, found, not-found, no-array, no-object, no-definition, no-date}
+
+-- ---- what is judged first counts
+
+or-stops : (a b : Mismatch) → (a .code ≡ 0 → ⊥) → orElse a b ≡ a
+or-stops a b h = rw (ne-eqb (a .code) 0 h)
+
+or-goes-on : (a b : Mismatch) → a .code ≡ 0 → orElse a b ≡ b
+or-goes-on a b h = rw (eq-eqb (a .code) 0 h)
+
+-- ---- a value against a definition
+
+module _ {s₁ s₂ t₁ t₂ : List ℕ} {r₁ r₂ : ℕ} (j : Judgeable s₁ s₂ t₁ t₂ r₁ r₂) where
+  -- the whole answer
+  abbrev answer : Mismatch
+  answer = mismatchAt s₁ (j .definition) (j .document .tree)
+
+  -- any trees there are those that are given, and so is the definition
+  conclude : {m : Mismatch} → m ≡ answer → Judged s₁ s₂ t₁ t₂ r₁ r₂ m
+  conclude q = record {
+    tells = λ i.
+        (let z : fine (j .definition) ≡ fine (i .definition) = sym (j .defines) ∙ ap (definitionAt s₂) (same-tree (j .schema) (i .schema)) ∙ i .defines in
+        let d : j .definition ≡ i .definition = cc in
+        q ∙ ap₂ (mismatchAt s₁) d (same-tree (j .document) (i .document)));
+  }
+
+  -- a definition's first byte is that of its value
+  first-byte : firstByte (j .definition) ≡ word t₂ r₂ 1
+  first-byte = located-first s₂ (j .schema .tree) (j .definition) (j .defines) ∙ sym (row (j .schema) .first)
+
+  -- a value of the wrong kind
+  wrong-kind : {x y : Record} {m : Mismatch} → Reads t₁ r₁ x → Reads t₂ r₂ y → m ≡ mismatch 20 (x .first) (y .first)
+      → answer ≡ mismatch 20 (placeOf (j .document .tree)) (firstByte (j .definition)) → Judged s₁ s₂ t₁ t₂ r₁ r₂ m
+  wrong-kind p q e h = conclude (e ∙ ap₂ (mismatch 20) (place-read (j .document) p) (q .first ∙ sym first-byte) ∙ sym h)
+
+-- ---- dates
+
+module _ {s t : List ℕ} {r : ℕ} {x : Record} (p : Reads t r x) {o : ℕ} {m : Mismatch} where
+  pub date-other : (x .kind ≡ 6 → ⊥) → m ≡ mismatch 20 (x .first) o → JudgedDate s t r o m
+  date-other h e = record {
+    tells = λ w. e ∙ ap (λ (f : ℕ). mismatch 20 f o) (place-read w p) ∙ sym (no-date s o (w .tree) (λ q. h (kind-read w p ∙ q)));
+  }
+
+  module _ (h : x .kind ≡ 6) {b : Bool} (d : b ≡ isDate (nameOf s (x .first) (x .end))) where
+    date-string : m ≡ cond b nothing (mismatch 22 (x .first) o) → JudgedDate s t r o m
+    date-string e = record { tells = λ w. e ∙ ap (λ (b : Bool). cond b nothing (mismatch 22 (x .first) o)) d ∙ sym (ap (dateAt s o) (string-read w p h)) }
+
+    pub date-is : b ≡ true → m ≡ nothing → JudgedDate s t r o m
+    date-is q e = date-string (rw q e)
+
+    pub date-not : b ≡ false → m ≡ mismatch 22 (x .first) o → JudgedDate s t r o m
+    date-not q e = date-string (rw q e)
+
+-- ---- type names
+
+type-fine : (p : ℕ) (x : Option Named) (d : Located) → typeAt p x ≡ fine d → (t : Named) × (x ≡ some t) × (d ≡ named-at p t)
+type-fine p none d q = absurd (let z : _≡_ {A = ℕ} 0 1 = cc in omega arith)
+type-fine p (some t) d q = (t, refl, cc)
+
+-- which kinds a type takes, by the tests of a value
+module _ (g : TypeName) (test : Kind → Bool) where
+  takes-as : test Null ≡ takesKind g 1 → test False ≡ takesKind g 2 → test True ≡ takesKind g 3 → test Whole ≡ takesKind g 4
+      → test Fractional ≡ takesKind g 5 → test Quoted ≡ takesKind g 6 → false ≡ takesKind g 7 → false ≡ takesKind g 8
+      → (n : Node) → ifScalar test n ≡ takesKind g (kindOf n)
+  takes-as a b c d e f h i (scalar Null x y) = a
+  takes-as a b c d e f h i (scalar False x y) = b
+  takes-as a b c d e f h i (scalar True x y) = c
+  takes-as a b c d e f h i (scalar Whole x y) = d
+  takes-as a b c d e f h i (scalar Fractional x y) = e
+  takes-as a b c d e f h i (scalar Quoted x y) = f
+  takes-as a b c d e f h i (array x y ns) = h
+  takes-as a b c d e f h i (object x y ms) = i
+
+-- the types that are judged by the value's kind alone: all but Schema and DateTime
+abbrev ByKind : ℕ → Type 0
+ByKind t = OneOf (0 ∷ 2 ∷ 3 ∷ 4 ∷ 5 ∷ 7 ∷ []) t
+
+neither : (t : ℕ) → ByKind t → (t ≡ 1 → ⊥) × (t ≡ 6 → ⊥)
+neither t (inl e) = (λ q. omega arith, λ q. omega arith)
+neither t (inr (inl e)) = (λ q. omega arith, λ q. omega arith)
+neither t (inr (inr (inl e))) = (λ q. omega arith, λ q. omega arith)
+neither t (inr (inr (inr (inl e)))) = (λ q. omega arith, λ q. omega arith)
+neither t (inr (inr (inr (inr (inl e))))) = (λ q. omega arith, λ q. omega arith)
+neither t (inr (inr (inr (inr (inr e))))) = (λ q. omega arith, λ q. omega arith)
+
+by-kind : (s : List ℕ) (p : ℕ) (t : Named) (n : Node) → ByKind (tagOf type-names (typeName (some t)))
+    → namedAt s p t n ≡ unless (takesKind (typeName (some t)) (kindOf n)) (placeOf n) p
+unfolding takesKind
+by-kind s p JSON n h = refl
+by-kind s p Schema n h = absurd (neither 1 h .0 refl)
+by-kind s p Float n h = ap (λ (b : Bool). unless b (placeOf n) p) (takes-as FloatName isNumber refl refl refl refl refl refl refl refl n)
+by-kind s p Integer n h = ap (λ (b : Bool). unless b (placeOf n) p) (takes-as IntegerName isWhole refl refl refl refl refl refl refl refl n)
+by-kind s p String n h = ap (λ (b : Bool). unless b (placeOf n) p) (takes-as TextName isString refl refl refl refl refl refl refl refl n)
+by-kind s p Boolean n h = ap (λ (b : Bool). unless b (placeOf n) p) (takes-as BooleanName isBoolean refl refl refl refl refl refl refl refl n)
+by-kind s p DateTime n h = absurd (neither 6 h .1 refl)
+
+schema-type : (t : Named) → typeName (some t) ≡ SchemaName → t ≡ Schema
+schema-type JSON q = cc
+schema-type Schema q = refl
+schema-type Float q = cc
+schema-type Integer q = cc
+schema-type String q = cc
+schema-type Boolean q = cc
+schema-type DateTime q = cc
+
+date-type : (t : Named) → typeName (some t) ≡ DateTimeName → t ≡ DateTime
+date-type JSON q = cc
+date-type Schema q = cc
+date-type Float q = cc
+date-type Integer q = cc
+date-type String q = cc
+date-type Boolean q = cc
+date-type DateTime q = refl
+
+-- code 0 of a fault says that there is none
+is-defined : (s : List ℕ) (n : Node) → isSome (definitionOf (valueOf s n)) ≡ eqb (faultOf (definitionAt s n) .code) 0
+is-defined s n = ap isSome (definition-forgets s n) ∙ go (definitionAt s n) refl
+  where
+    go : (x : Defined Located) → definitionAt s n ≡ x → isSome (forget x) ≡ eqb (faultOf x .code) 0
+    go (faulty c p) q = sym (ne-eqb c 0 (λ e. omega (arith, fault-code s n c p q)))
+    go (fine d) q = refl
+
+-- a type name, read as g, and both rows
+pub record NamedRead (s₁ s₂ t₁ t₂ : List ℕ) (r₁ r₂ : ℕ) (x y : Record) (g : TypeName) : Type 0 where
+  pub given : Judgeable s₁ s₂ t₁ t₂ r₁ r₂
+  pub string : word t₂ r₂ 0 ≡ 6
+  pub value : Reads t₁ r₁ x
+  pub reads : Reads t₂ r₂ y
+  pub is : g ≡ typeName (namedBy (nameOf s₂ (y .first) (y .end)))
+
+module _ {s₁ s₂ t₁ t₂ : List ℕ} {r₁ r₂ : ℕ} {x y : Record} {g : TypeName} (i : NamedRead s₁ s₂ t₁ t₂ r₁ r₂ x y g) where
+  -- the type that it names
+  type : (t : Named) × (g ≡ typeName (some t)) × (i .given .definition ≡ named-at (y .first) t)
+  type =
+      let q = string-read (i .given .schema) (i .reads) (i .reads .kind ∙ i .string) in
+      let t = type-fine (y .first) (namedBy (nameOf s₂ (y .first) (y .end))) (i .given .definition) (sym (ap (definitionAt s₂) q) ∙ i .given .defines) in
+      (t .0, i .is ∙ ap typeName (t .1), t .2)
+
+  module _ {m : Mismatch} where
+    judge-type : (t : Named) → i .given .definition ≡ named-at (y .first) t → m ≡ namedAt s₁ (y .first) t (i .given .document .tree)
+        → Judged s₁ s₂ t₁ t₂ r₁ r₂ m
+    judge-type t d e = conclude (i .given) (e ∙ sym (ap (λ (d : Located). mismatchAt s₁ d (i .given .document .tree)) d))
+
+    pub named-date : g ≡ DateTimeName → JudgedDate s₁ t₁ r₁ (y .first) m → Judged s₁ s₂ t₁ t₂ r₁ r₂ m
+    named-date q h = judge-type DateTime (type .2 ∙ ap (named-at (y .first)) (date-type (type .0) (sym (type .1) ∙ q))) (h .tells (i .given .document))
+
+    named-unless : (b : Bool) {t : Named} → type .0 ≡ t
+        → namedAt s₁ (y .first) t (i .given .document .tree) ≡ unless b (placeOf (i .given .document .tree)) (y .first)
+        → m ≡ unless b (x .first) (y .first) → Judged s₁ s₂ t₁ t₂ r₁ r₂ m
+    named-unless b {t} q h e =
+        judge-type t (type .2 ∙ ap (named-at (y .first)) q) (e ∙ ap (λ (f : ℕ). unless b f (y .first)) (place-read (i .given .document) (i .value)) ∙ sym h)
+
+    module _ (q : g ≡ SchemaName) {f : Fault} (d : Defines s₁ t₁ r₁ f) where
+      named-schema : m ≡ unless (eqb (f .code) 0) (x .first) (y .first) → Judged s₁ s₂ t₁ t₂ r₁ r₂ m
+      named-schema e =
+          let n = i .given .document .tree in
+          let z : isSome (definitionOf (valueOf s₁ n)) ≡ eqb (f .code) 0 = rw (d .tells (i .given .document)) (is-defined s₁ n) in
+          named-unless (eqb (f .code) 0) (schema-type (type .0) (sym (type .1) ∙ q)) (ap (λ (b : Bool). unless b (placeOf n) (y .first)) z) e
+
+      pub named-defined : f .code ≡ 0 → m ≡ nothing → Judged s₁ s₂ t₁ t₂ r₁ r₂ m
+      named-defined z e = named-schema (rw (eq-eqb (f .code) 0 z) e)
+
+      pub named-faulty : (f .code ≡ 0 → ⊥) → m ≡ mismatch 20 (x .first) (y .first) → Judged s₁ s₂ t₁ t₂ r₁ r₂ m
+      named-faulty z e = named-schema (rw (ne-eqb (f .code) 0 z) e)
+
+    module _ (q : OneOf (0 ∷ 2 ∷ 3 ∷ 4 ∷ 5 ∷ 7 ∷ []) (tagOf type-names g)) {b : Bool} (k : b ≡ takesKind g (x .kind)) where
+      named-kind : m ≡ unless b (x .first) (y .first) → Judged s₁ s₂ t₁ t₂ r₁ r₂ m
+      named-kind e =
+          let n = i .given .document .tree in
+          let z : takesKind (typeName (some (type .0))) (kindOf n) ≡ b = rw (← type .1, ← kind-read (i .given .document) (i .value)) (sym k) in
+          named-unless b refl (by-kind s₁ (y .first) (type .0) n (rw (type .1) at q) ∙ ap (λ (b : Bool). unless b (placeOf n) (y .first)) z) e
+
+      pub named-takes : b ≡ true → m ≡ nothing → Judged s₁ s₂ t₁ t₂ r₁ r₂ m
+      named-takes z e = named-kind (rw z e)
+
+      pub named-refuses : b ≡ false → m ≡ mismatch 20 (x .first) (y .first) → Judged s₁ s₂ t₁ t₂ r₁ r₂ m
+      named-refuses z e = named-kind (rw z e)
+
+-- ---- definitions that are objects
+
+fine-kind : (s : List ℕ) (n : Node) (d : Located) → definitionAt s n ≡ fine d → (kindOf n ≡ 6 → ⊥) → kindOf n ≡ 8
+fine-kind s n d q h = go (ℕ-discrete (kindOf n) 8)
+  where
+    go : Dec (kindOf n ≡ 8) → kindOf n ≡ 8
+    go (yes e) = e
+    go (no e) = let z : faulty 10 (placeOf n) ≡ fine d = sym (no-definition s n h e) ∙ q in let x : _≡_ {A = ℕ} 0 1 = cc in absurd (omega arith)
+
+fine-count : (s : List ℕ) (p : ℕ) (ms : Members) (d : Located) → singleAt s p ms ≡ fine d → countMembers ms ≡ 1
+fine-count s p no-member d q = cc
+fine-count s p (member f e n no-member) d q = refl
+fine-count s p (member f e n (member g i m ms)) d q = cc
+
+-- the one member of a definition: its name at row r + 1, its value at row r + 2
+pub record Under (s t : List ℕ) (r : ℕ) (d : Located) : Type 0 where
+  pub value : Rowed s t (r + 2)
+  pub in-table : InTable t (r + 1)
+  pub quoted : IsQuoted s (word t (r + 1) 1) (word t (r + 1) 2)
+  pub less : word t (r + 2) 4 < word t r 4
+  pub is : constructed (word t r 1) (word t (r + 1) 1) (nameOf s (word t (r + 1) 1) (word t (r + 1) 2))
+      (definitionAt s (value .tree)) (bodyAt s (word t r 1) (value .tree)) ≡ fine d
+
+module _ {s t : List ℕ} {r : ℕ} (w : Rowed s t r) {d : Located} (q : definitionAt s (w .tree) ≡ fine d) where
+  under-object : word t r 0 ≡ 8 → Under s t r d
+  under-object k =
+      let o = as-object w k in
+      let g : singleAt s (word t r 1) (o .members) ≡ fine d = sym (ap (definitionAt s) (object-row w k)) ∙ q in
+      let c : word t r 3 ≡ 1 = o .holds .0 .direct ∙ fine-count s (word t r 1) (o .members) d g in
+      let a = members-start o refl in
+      let m = member-here a (omega arith) in
+      let e : r + 1 + 1 ≡ r + 2 = omega arith in
+      let h : Holds t (r + 2) (m .value .tree) = subst (λ (x : ℕ). Holds t x (m .value .tree)) e (m .value .holds) in
+      let v : Rowed s t (r + 2) = record { tree = m .value .tree; holds = h; placed = m .value .placed } in
+      let i = m .is ∙ ap (member (word t (r + 1) 1) (word t (r + 1) 2) (v .tree)) (members-end (members-next a m refl) (omega arith)) in
+      record {
+        value = v;
+        in-table = m .in-table;
+        quoted = m .quoted;
+        less = omega (arith, row v .subtree, row w .subtree, ap size (object-row w k), ap sizesMembers i);
+        is = sym (ap (singleAt s (word t r 1)) i) ∙ g;
+      }
+
+  pub under : (word t r 0 ≡ 6 → ⊥) → Under s t r d
+  under h = under-object (row w .kind ∙ fine-kind s (w .tree) d q (λ e. h (row w .kind ∙ e)))
+
+-- what the definition is, by the generic type that the name is
+abbrev Shaped : List ℕ → ℕ → Node → Generic → Located → Type 0
+Shaped s p n Array d = (e : Located) × (definitionAt s n ≡ fine e) × (d ≡ array-at p e)
+Shaped s p n Map d = (e : Located) × (definitionAt s n ≡ fine e) × (d ≡ map-at p e)
+Shaped s p n Object d = bodyAt s p n ≡ fine d
+Shaped s p n Other d = ⊥
+
+mapped-fine : (f : Located → Located) (x : Defined Located) (d : Located) → mapped f x ≡ fine d → (e : Located) × (x ≡ fine e) × (d ≡ f e)
+mapped-fine f (faulty c p) d q = absurd (let z : _≡_ {A = ℕ} 0 1 = cc in omega arith)
+mapped-fine f (fine e) d q = (e, refl, cc)
+
+shaped : (s : List ℕ) (p i : ℕ) (k : List ℕ) (n : Node) (d : Located) → constructed p i k (definitionAt s n) (bodyAt s p n) ≡ fine d
+    → Shaped s p n (genericOf k) d
+unfolding genericOf
+shaped s p i k n d = go (same k (text "Array")) (same k (text "Map")) (same k (text "Object"))
+  where
+    go : (a m b : Bool) → cond a (mapped (array-at p) (definitionAt s n)) (cond m (mapped (map-at p) (definitionAt s n)) (cond b (bodyAt s p n) (faulty 11 i))) ≡ fine d
+        → Shaped s p n (cond a Array (cond m Map (cond b Object Other))) d
+    go true m b q = mapped-fine (array-at p) (definitionAt s n) d q
+    go false true b q = mapped-fine (map-at p) (definitionAt s n) d q
+    go false false true q = q
+    go false false false q = let z : _≡_ {A = ℕ} 0 1 = cc in omega arith
+
+-- the body of an Object, whose parts are these fields
+record BodyAt (s : List ℕ) (n : Node) (required optional : LocatedFields) : Type 0 where
+  pub object : kindOf n ≡ 8
+  pub firsts : Members
+  pub seconds : Members
+  pub first : partAt s (text "required") (membersIn n) ≡ part firsts (fine required)
+  pub second : partAt s (text "optional") (membersIn n) ≡ part seconds (fine optional)
+
+both-fine : (o : Option ℕ) (p : ℕ) (x y : Defined LocatedFields) (d : Located) → unshared o (bothFields p x y) ≡ fine d
+    → (r : LocatedFields) × (q : LocatedFields) × (x ≡ fine r) × (y ≡ fine q) × (d ≡ object-at p r q)
+both-fine none p (faulty c i) y d q = absurd (let z : _≡_ {A = ℕ} 0 1 = cc in omega arith)
+both-fine none p (fine r) (faulty c i) d q = absurd (let z : _≡_ {A = ℕ} 0 1 = cc in omega arith)
+both-fine none p (fine r) (fine o) d q = (r, o, refl, refl, cc)
+both-fine (some i) p x y d q = absurd (let z : _≡_ {A = ℕ} 0 1 = cc in omega arith)
+
+body-fine : (s : List ℕ) (p : ℕ) (n : Node) (d : Located) → bodyAt s p n ≡ fine d
+    → (r : LocatedFields) × (o : LocatedFields) × BodyAt s n r o × (d ≡ object-at p r o)
+body-fine s p (scalar k f e) d q = absurd (let z : _≡_ {A = ℕ} 0 1 = cc in omega arith)
+body-fine s p (array f e ns) d q = absurd (let z : _≡_ {A = ℕ} 0 1 = cc in omega arith)
+body-fine s p (object f e ms) d q = go (partAt s (text "required") ms) (partAt s (text "optional") ms) refl refl q
+  where
+    go : (x y : Part) → partAt s (text "required") ms ≡ x → partAt s (text "optional") ms ≡ y → joined s p x y ≡ fine d
+        → (r : LocatedFields) × (o : LocatedFields) × BodyAt s (object f e ms) r o × (d ≡ object-at p r o)
+    go (wrong i) y g h q = absurd (let z : _≡_ {A = ℕ} 0 1 = cc in omega arith)
+    go (part ns x) (wrong i) g h q = absurd (let z : _≡_ {A = ℕ} 0 1 = cc in omega arith)
+    go (part ns x) (part os y) g h q =
+        let b = both-fine (sharedAt s ns os) p x y d q in
+        (b .0, b .1, record { object = refl; firsts = ns; seconds = os; first = g ∙ ap (part ns) (b .2); second = h ∙ ap (part os) (b .3) }, b .4)
+
+-- ---- the generic type was read
+
+pub record GenericRead (s₁ s₂ t₁ t₂ : List ℕ) (r₁ r₂ : ℕ) (y : Record) (g : Generic) : Type 0 where
+  pub given : Judgeable s₁ s₂ t₁ t₂ r₁ r₂
+  pub other : word t₂ r₂ 0 ≡ 6 → ⊥
+  pub reads : Reads t₂ (r₂ + 1) y
+  pub is : g ≡ genericOf (nameOf s₂ (y .first) (y .end))
+
+module _ {s₁ s₂ t₁ t₂ : List ℕ} {r₁ r₂ : ℕ} {y : Record} {g : Generic} (i : GenericRead s₁ s₂ t₁ t₂ r₁ r₂ y g) where
+  abbrev inside : Under s₂ t₂ r₂ (i .given .definition)
+  inside = under (i .given .schema) (i .given .defines) (i .other)
+
+  shape : Shaped s₂ (word t₂ r₂ 1) (inside .value .tree) g (i .given .definition)
+  shape =
+      let z : g ≡ genericOf (nameOf s₂ (word t₂ (r₂ + 1) 1) (word t₂ (r₂ + 1) 2)) = i .is ∙ rw (i .reads .first, i .reads .last) in
+      rw z (shaped s₂ (word t₂ r₂ 1) (word t₂ (r₂ + 1) 1) _ (inside .value .tree) (i .given .definition) (inside .is))
+
+  pub reads-array : g ≡ Array → ArrayJudgeable s₁ s₂ t₁ t₂ r₁ r₂
+  reads-array q = let x = rw q at shape in record { given = i .given; place = word t₂ r₂ 1; element = x .0; is = x .2 }
+
+  pub reads-map : g ≡ Map → MapJudgeable s₁ s₂ t₁ t₂ r₁ r₂
+  reads-map q = let x = rw q at shape in record { given = i .given; place = word t₂ r₂ 1; element = x .0; is = x .2 }
+
+  pub reads-object : OneOf (2 ∷ 3 ∷ []) (tagOf generics g) → BodyJudgeable s₁ s₂ t₁ t₂ r₁ r₂
+  reads-object h = go g shape h
+    where
+      few : (t : ℕ) → OneOf (2 ∷ 3 ∷ []) t → 2 ≤ t
+      few t (inl e) = omega arith
+      few t (inr e) = omega arith
+
+      go : (g : Generic) → Shaped s₂ (word t₂ r₂ 1) (inside .value .tree) g (i .given .definition)
+          → OneOf (2 ∷ 3 ∷ []) (tagOf generics g) → BodyJudgeable s₁ s₂ t₁ t₂ r₁ r₂
+      go Array x h = let l : 2 ≤ 0 = few 0 h in absurd (omega arith)
+      go Map x h = let l : 2 ≤ 1 = few 1 h in absurd (omega arith)
+      go Object x h =
+          let b = body-fine s₂ (word t₂ r₂ 1) (inside .value .tree) (i .given .definition) x in
+          record { given = i .given; place = word t₂ r₂ 1; required = b .0; optional = b .1; is = b .3 }
+      go Other x h = absurd x
+
+-- ---- by what the definition is
+
+array-shape : (s : List ℕ) (p : ℕ) (n : Node) (g : Generic) (d : Located) {q : ℕ} {e : Located}
+    → Shaped s p n g d → d ≡ array-at q e → definitionAt s n ≡ fine e
+array-shape s p n Array d {q} {e} x i = let z : x .0 ≡ e = cc (x .2) in x .1 ∙ ap fine z
+array-shape s p n Map d x i = let z : _≡_ {A = ℕ} 0 1 = cc (x .2) in absurd (omega arith)
+array-shape s p n Object d x i = let z : _≡_ {A = ℕ} 0 1 = cc (body-fine s p n d x .3) in absurd (omega arith)
+array-shape s p n Other d x i = absurd x
+
+map-shape : (s : List ℕ) (p : ℕ) (n : Node) (g : Generic) (d : Located) {q : ℕ} {e : Located}
+    → Shaped s p n g d → d ≡ map-at q e → definitionAt s n ≡ fine e
+map-shape s p n Array d x i = let z : _≡_ {A = ℕ} 0 1 = cc (x .2) in absurd (omega arith)
+map-shape s p n Map d {q} {e} x i = let z : x .0 ≡ e = cc (x .2) in x .1 ∙ ap fine z
+map-shape s p n Object d x i = let z : _≡_ {A = ℕ} 0 1 = cc (body-fine s p n d x .3) in absurd (omega arith)
+map-shape s p n Other d x i = absurd x
+
+object-shape : (s : List ℕ) (p : ℕ) (n : Node) (g : Generic) (d : Located) {q : ℕ} {r o : LocatedFields}
+    → Shaped s p n g d → d ≡ object-at q r o → BodyAt s n r o
+object-shape s p n Array d x i = let z : _≡_ {A = ℕ} 0 1 = cc (x .2) in absurd (omega arith)
+object-shape s p n Map d x i = let z : _≡_ {A = ℕ} 0 1 = cc (x .2) in absurd (omega arith)
+object-shape s p n Object d {r = r} {o = o} x i =
+    let b = body-fine s p n d x in
+    let y : b .0 ≡ r = cc (b .3) in
+    let z : b .1 ≡ o = cc (b .3) in
+    rw (y, z) at (b .2)
+object-shape s p n Other d x i = absurd x
+
+abbrev isGeneric : Located → Bool
+isGeneric (named-at p t) = false
+isGeneric (array-at p d) = true
+isGeneric (map-at p d) = true
+isGeneric (object-at p r o) = true
+
+module _ {s₁ s₂ t₁ t₂ : List ℕ} {r₁ r₂ : ℕ} (j : Judgeable s₁ s₂ t₁ t₂ r₁ r₂) (h : isGeneric (j .definition) ≡ true) where
+  generic-under : Under s₂ t₂ r₂ (j .definition)
+  generic-under = under (j .schema) (j .defines) (λ k.
+      (let q = sym (ap (definitionAt s₂) (string-row (j .schema) k)) ∙ j .defines in
+      let x = type-fine (word t₂ r₂ 1) (namedBy (nameOf s₂ (word t₂ r₂ 1) (word t₂ r₂ 2))) (j .definition) q in
+      let z : _≡_ {A = ℕ} 0 1 = cc (ap isGeneric (x .2)) in
+      omega arith))
+
+  generic-shape : (g : Generic) × Shaped s₂ (word t₂ r₂ 1) (generic-under .value .tree) g (j .definition)
+  generic-shape =
+      let k = nameOf s₂ (word t₂ (r₂ + 1) 1) (word t₂ (r₂ + 1) 2) in
+      (genericOf k, shaped s₂ (word t₂ r₂ 1) (word t₂ (r₂ + 1) 1) k (generic-under .value .tree) (j .definition) (generic-under .is))
+
+-- the definition under Array or Map, at row r + 2
+pub record Element (s t : List ℕ) (r : ℕ) (e : Located) : Type 0 where
+  pub value : Rowed s t (r + 2)
+  pub defines : definitionAt s (value .tree) ≡ fine e
+  pub less : word t (r + 2) 4 < word t r 4
+
+module _ {s₁ s₂ t₁ t₂ : List ℕ} {r₁ r₂ : ℕ} where
+  pub array-element : (j : ArrayJudgeable s₁ s₂ t₁ t₂ r₁ r₂) → Element s₂ t₂ r₂ (j .element)
+  array-element j =
+      let u = generic-under (j .given) (ap isGeneric (j .is)) in
+      let x = generic-shape (j .given) (ap isGeneric (j .is)) in
+      record { value = u .value; defines = array-shape s₂ (word t₂ r₂ 1) (u .value .tree) (x .0) (j .given .definition) (x .1) (j .is); less = u .less }
+
+  pub map-element : (j : MapJudgeable s₁ s₂ t₁ t₂ r₁ r₂) → Element s₂ t₂ r₂ (j .element)
+  map-element j =
+      let u = generic-under (j .given) (ap isGeneric (j .is)) in
+      let x = generic-shape (j .given) (ap isGeneric (j .is)) in
+      record { value = u .value; defines = map-shape s₂ (word t₂ r₂ 1) (u .value .tree) (x .0) (j .given .definition) (x .1) (j .is); less = u .less }
+
+-- ---- the elements of an array and the members of an object, one after the other
+
+-- the next value, at row `here`, which the element's definition judges; where it has no mismatch, that of the others counts
+pub record Turn (s₁ s₂ t₁ t₂ : List ℕ) (r₁ r₂ here : ℕ) : Type 0 where
+  pub given : Judgeable s₁ s₂ t₁ t₂ r₁ r₂
+  pub one : Judgeable s₁ s₂ t₁ t₂ here (r₂ + 2)
+  pub less : word t₂ (r₂ + 2) 4 < word t₂ r₂ 4
+  pub others : Mismatch
+  pub is : answer given ≡ orElse (answer one) others
+
+module _ {s₁ s₂ t₁ t₂ : List ℕ} {r₁ r₂ here : ℕ} (k : Turn s₁ s₂ t₁ t₂ r₁ r₂ here) {m : Mismatch} (h : Judged s₁ s₂ t₁ t₂ here (r₂ + 2) m) where
+  pub turn-stops : (m .code ≡ 0 → ⊥) → Judged s₁ s₂ t₁ t₂ r₁ r₂ m
+  turn-stops c = let e = h .tells (k .one) in conclude (k .given) (e ∙ sym (k .is ∙ or-stops (answer (k .one)) (k .others) (rw e at c)))
+
+  turn-goes-on : m .code ≡ 0 → answer (k .given) ≡ k .others
+  turn-goes-on c = k .is ∙ or-goes-on (answer (k .one)) (k .others) (rw (h .tells (k .one)) at c)
+
+-- before the element at row `here`, with `left` elements not yet judged
+pub record InArray (s₁ s₂ t₁ t₂ : List ℕ) (r₁ r₂ here left : ℕ) : Type 0 where
+  pub given : ArrayJudgeable s₁ s₂ t₁ t₂ r₁ r₂
+  pub rest : Nodes
+  pub ahead : ElementsLeft s₁ t₁ here left rest
+  pub stays : answer (given .given) ≡ firstElement (mismatchAt s₁ (given .element)) rest
+
+module _ {s₁ s₂ t₁ t₂ : List ℕ} {r₁ r₂ : ℕ} (j : ArrayJudgeable s₁ s₂ t₁ t₂ r₁ r₂) {x : Record} (p : Reads t₁ r₁ x) where
+  pub array-other : {y : Record} {m : Mismatch} → Reads t₂ r₂ y → (x .kind ≡ 7 → ⊥) → m ≡ mismatch 20 (x .first) (y .first) → Judged s₁ s₂ t₁ t₂ r₁ r₂ m
+  array-other q h e =
+      wrong-kind (j .given) p q e (rw (j .is) (no-array (j .given .document .tree) (j .place) _ (λ z. h (kind-read (j .given .document) p ∙ z))))
+
+  pub array-start : x .kind ≡ 7 → InArray s₁ s₂ t₁ t₂ r₁ r₂ (r₁ + 1) (x .children)
+  array-start h =
+      let w = j .given .document in
+      let k : word t₁ r₁ 0 ≡ 7 = sym (p .kind) ∙ h in
+      record { given = j; rest = elementsIn (w .tree); ahead = elements-start w k (p .children); stays = ap₂ (mismatchAt s₁) (j .is) (array-row w k) }
+
+module _ {s₁ s₂ t₁ t₂ : List ℕ} {r₁ r₂ here left : ℕ} (a : InArray s₁ s₂ t₁ t₂ r₁ r₂ here left) where
+  pub array-end : {m : Mismatch} → left ≤ 0 → m ≡ nothing → Judged s₁ s₂ t₁ t₂ r₁ r₂ m
+  array-end l e = conclude (a .given .given) (e ∙ sym (a .stays ∙ ap (firstElement (mismatchAt s₁ (a .given .element))) (elements-end (a .ahead) l)))
+
+  module _ (l : 0 < left) where
+    abbrev element : ElementHere s₁ t₁ here (a .rest)
+    element = element-here (a .ahead) l
+
+    abbrev pub array-turn : Turn s₁ s₂ t₁ t₂ r₁ r₂ here
+    array-turn =
+        let e = array-element (a .given) in
+        record {
+          given = a .given .given;
+          one = record { document = element .value; schema = e .value; definition = a .given .element; defines = e .defines };
+          less = e .less;
+          others = firstElement (mismatchAt s₁ (a .given .element)) (element .others);
+          is = a .stays ∙ ap (firstElement (mismatchAt s₁ (a .given .element))) (element .is);
+        }
+
+    pub array-next : {m : Mismatch} → Judged s₁ s₂ t₁ t₂ here (r₂ + 2) m → m .code ≡ 0 → {x : Record} → Reads t₁ here x
+        → InArray s₁ s₂ t₁ t₂ r₁ r₂ (x .next) (left - 1)
+    array-next h c p = record { given = a .given; rest = element .others; ahead = elements-next (a .ahead) element (p .next); stays = turn-goes-on array-turn h c }
+
+-- before the value at row `at` of a member, with `left` members not yet judged
+pub record InMap (s₁ s₂ t₁ t₂ : List ℕ) (r₁ r₂ at left : ℕ) : Type 0 where
+  pub given : MapJudgeable s₁ s₂ t₁ t₂ r₁ r₂
+  pub rest : Members
+  pub ahead : ValuesLeft s₁ t₁ at left rest
+  pub stays : answer (given .given) ≡ firstMember (mismatchAt s₁ (given .element)) rest
+
+module _ {s₁ s₂ t₁ t₂ : List ℕ} {r₁ r₂ : ℕ} (j : MapJudgeable s₁ s₂ t₁ t₂ r₁ r₂) {x : Record} (p : Reads t₁ r₁ x) where
+  pub map-other : {y : Record} {m : Mismatch} → Reads t₂ r₂ y → (x .kind ≡ 8 → ⊥) → m ≡ mismatch 20 (x .first) (y .first) → Judged s₁ s₂ t₁ t₂ r₁ r₂ m
+  map-other q h e =
+      wrong-kind (j .given) p q e (rw (j .is) (no-object (j .given .document .tree) (j .place) _ (λ z. h (kind-read (j .given .document) p ∙ z))))
+
+  pub map-start : x .kind ≡ 8 → InMap s₁ s₂ t₁ t₂ r₁ r₂ (r₁ + 2) (x .children)
+  map-start h =
+      let w = j .given .document in
+      let k : word t₁ r₁ 0 ≡ 8 = sym (p .kind) ∙ h in
+      record { given = j; rest = membersIn (w .tree); ahead = values-start (as-object w k) (p .children); stays = ap₂ (mismatchAt s₁) (j .is) (object-row w k) }
+
+module _ {s₁ s₂ t₁ t₂ : List ℕ} {r₁ r₂ at left : ℕ} (a : InMap s₁ s₂ t₁ t₂ r₁ r₂ at left) where
+  pub map-end : {m : Mismatch} → left ≤ 0 → m ≡ nothing → Judged s₁ s₂ t₁ t₂ r₁ r₂ m
+  map-end l e = conclude (a .given .given) (e ∙ sym (a .stays ∙ ap (firstMember (mismatchAt s₁ (a .given .element))) (values-end (a .ahead) l)))
+
+  module _ (l : 0 < left) where
+    abbrev value : ValueHere s₁ t₁ at (a .rest)
+    value = value-here (a .ahead) l
+
+    abbrev pub map-turn : Turn s₁ s₂ t₁ t₂ r₁ r₂ at
+    map-turn =
+        let e = map-element (a .given) in
+        record {
+          given = a .given .given;
+          one = record { document = value .value; schema = e .value; definition = a .given .element; defines = e .defines };
+          less = e .less;
+          others = firstMember (mismatchAt s₁ (a .given .element)) (value .others);
+          is = a .stays ∙ ap (firstMember (mismatchAt s₁ (a .given .element))) (value .is);
+        }
+
+    pub map-next : {m : Mismatch} → Judged s₁ s₂ t₁ t₂ at (r₂ + 2) m → m .code ≡ 0 → {x : Record} → Reads t₁ at x
+        → InMap s₁ s₂ t₁ t₂ r₁ r₂ (x .next + 1) (left - 1)
+    map-next h c p =
+        record { given = a .given; rest = value .others; ahead = values-next (a .ahead) value (ap (λ (r : ℕ). r + 1) (p .next)); stays = turn-goes-on map-turn h c }
+
+-- ---- an object against the fields of a definition
+
+-- the fields at the row that was found, where they are defined
+pub part-fields : {s t : List ℕ} {r : ℕ} (v : ℕ) {x : Part} {ms : Members} {fs : LocatedFields} → Sought s t r v x → x ≡ part ms (fine fs)
+    → (w : PartRow s t v) × (fieldsAt s (w .members) ≡ fine fs)
+part-fields zero {fs = fs} k q =
+    let e = k .absent refl in
+    let z : fine no-field ≡ fine fs = cc in
+    (record { members = no-member; absent = λ _. refl; present = λ l. absurd (omega arith) }, z)
+part-fields {s} {t} (suc v) {x} {ms} {fs} k q = go (w .tree) (w .holds) (w .placed) (sym (k .is l) ∙ q)
+  where
+    l : 0 < suc v
+    l = omega arith
+
+    w : Rowed s t (suc v)
+    w = k .value l
+
+    go : (n : Node) → Holds t (suc v) n → Placed s n → partOf s n ≡ part ms (fine fs) → (w : PartRow s t (suc v)) × (fieldsAt s (w .members) ≡ fine fs)
+    go (scalar c f e) h p q = absurd (let z : _≡_ {A = ℕ} 0 1 = cc in omega arith)
+    go (array f e ns) h p q = absurd (let z : _≡_ {A = ℕ} 0 1 = cc in omega arith)
+    go (object f e ns) h p q = (record { members = ns; absent = λ e. absurd (omega arith); present = λ _. (f, e, h, p) }, cc)
+
+-- an object, and the body of the definition under Object, at row r₂ + 2
+pub record InBody (s₁ s₂ t₁ t₂ : List ℕ) (r₁ r₂ : ℕ) : Type 0 where
+  pub given : BodyJudgeable s₁ s₂ t₁ t₂ r₁ r₂
+  pub document : ObjectRow s₁ t₁ r₁
+  pub body : ObjectRow s₂ t₂ (r₂ + 2)
+  pub less : word t₂ (r₂ + 2) 4 < word t₂ r₂ 4
+  pub firsts : Members
+  pub seconds : Members
+  pub first : partAt s₂ (text "required") (body .members) ≡ part firsts (fine (given .required))
+  pub second : partAt s₂ (text "optional") (body .members) ≡ part seconds (fine (given .optional))
+
+module _ {s₁ s₂ t₁ t₂ : List ℕ} {r₁ r₂ : ℕ} (j : BodyJudgeable s₁ s₂ t₁ t₂ r₁ r₂) {x : Record} (p : Reads t₁ r₁ x) where
+  pub object-other : {y : Record} {m : Mismatch} → Reads t₂ r₂ y → (x .kind ≡ 8 → ⊥) → m ≡ mismatch 20 (x .first) (y .first) → Judged s₁ s₂ t₁ t₂ r₁ r₂ m
+  object-other q h e =
+      wrong-kind (j .given) p q e (rw (j .is) (no-object (j .given .document .tree) (j .place) _ (λ z. h (kind-read (j .given .document) p ∙ z))))
+
+  pub object-start : x .kind ≡ 8 → InBody s₁ s₂ t₁ t₂ r₁ r₂
+  object-start h =
+      let u = generic-under (j .given) (ap isGeneric (j .is)) in
+      let g = generic-shape (j .given) (ap isGeneric (j .is)) in
+      let b = object-shape s₂ (word t₂ r₂ 1) (u .value .tree) (g .0) (j .given .definition) (g .1) (j .is) in
+      record {
+        given = j;
+        document = as-object (j .given .document) (sym (p .kind) ∙ h);
+        body = as-object (u .value) (row (u .value) .kind ∙ b .object);
+        less = u .less;
+        firsts = b .firsts;
+        seconds = b .seconds;
+        first = b .first;
+        second = b .second;
+      }
+
+module _ {s₁ s₂ t₁ t₂ : List ℕ} {r₁ r₂ : ℕ} (b : InBody s₁ s₂ t₁ t₂ r₁ r₂) where
+  -- the fields at the row v that was found for a part
+  abbrev pub fields-found : {key : List ℕ} {v : ℕ} {ms : Members} {fs : LocatedFields} → Finds s₂ t₂ (r₂ + 2) key v
+      → partAt s₂ key (b .body .members) ≡ part ms (fine fs) → FieldsJudgeable s₁ s₂ t₁ t₂ r₁ v
+  fields-found {v = v} {fs = fs} f q =
+      let x = part-fields v (sought (b .body) f) q in
+      record { document = b .document; schema = x .0; fields = fs; defines = x .1 }
+
+  pub part-less : {key : List ℕ} {v : ℕ} → Finds s₂ t₂ (r₂ + 2) key v → partRows t₂ v < word t₂ r₂ 4
+  part-less f = omega (arith, sought (b .body) f .less, b .less)
+
+  both-parts : answer (b .given .given)
+      ≡ orElse (fieldsMismatch s₁ (missing (b .document .first)) (b .given .required) (b .document .members))
+      (fieldsMismatch s₁ skipped (b .given .optional) (b .document .members))
+  both-parts = ap₂ (mismatchAt s₁) (b .given .is) (row-object (b .given .given .document) (b .document))
+
+  module _ {v : ℕ} (f : Finds s₂ t₂ (r₂ + 2) (text "required") v) {m : Mismatch} (h : FieldsJudged s₁ s₂ t₁ t₂ r₁ v true m) where
+    pub required-stops : (m .code ≡ 0 → ⊥) → Judged s₁ s₂ t₁ t₂ r₁ r₂ m
+    required-stops c =
+        let e = h .tells (fields-found f (b .first)) in
+        conclude (b .given .given) (e ∙ sym (both-parts ∙ or-stops _ _ (rw e at c)))
+
+    pub optional-ends : m .code ≡ 0 → {u : ℕ} → Finds s₂ t₂ (r₂ + 2) (text "optional") u
+        → {n : Mismatch} → FieldsJudged s₁ s₂ t₁ t₂ r₁ u false n → Judged s₁ s₂ t₁ t₂ r₁ r₂ n
+    optional-ends c g k =
+        let e = h .tells (fields-found f (b .first)) in
+        conclude (b .given .given) (k .tells (fields-found g (b .second)) ∙ sym (both-parts ∙ or-goes-on _ _ (rw e at c)))
+
+-- ---- the fields, one after the other
+
+module _ {s₁ s₂ t₁ t₂ : List ℕ} {r₁ r₂ : ℕ} (required : Bool) (j : FieldsJudgeable s₁ s₂ t₁ t₂ r₁ r₂) where
+  -- the whole answer, from some fields on
+  abbrev fieldsAnswer : LocatedFields → Mismatch
+  fieldsAnswer fs = fieldsMismatch s₁ (absence required (j .document .first)) fs (j .document .members)
+
+  -- any object and any fields there are those that are given
+  conclude-fields : {m : Mismatch} → m ≡ fieldsAnswer (j .fields) → FieldsJudged s₁ s₂ t₁ t₂ r₁ r₂ required m
+  conclude-fields {m} q = record {
+    tells = λ i.
+        (let e = same-tree (as-row (j .document)) (as-row (i .document)) in
+        let f : j .document .first ≡ i .document .first = ap placeOf e in
+        let n : j .document .members ≡ i .document .members = ap membersIn e in
+        let z : fine (j .fields) ≡ fine (i .fields) = sym (j .defines) ∙ ap (fieldsAt s₂) (same-part (j .schema) (i .schema)) ∙ i .defines in
+        let d : j .fields ≡ i .fields = cc in
+        rw (← f, ← n, ← d) q);
+  }
+
+  -- no members, no fields
+  pub fields-none : {m : Mismatch} → r₂ ≡ 0 → m ≡ nothing → FieldsJudged s₁ s₂ t₁ t₂ r₁ r₂ required m
+  fields-none z e =
+      let q : fine no-field ≡ fine (j .fields) = sym (ap (fieldsAt s₂) (j .schema .absent z)) ∙ j .defines in
+      let f : no-field ≡ j .fields = cc in
+      conclude-fields (e ∙ ap fieldsAnswer f)
+
+-- before the field whose name is at row `here`, with `left` fields not yet judged
+pub record InFields (s₁ s₂ t₁ t₂ : List ℕ) (r₁ r₂ : ℕ) (required : Bool) (here left : ℕ) : Type 0 where
+  pub given : FieldsJudgeable s₁ s₂ t₁ t₂ r₁ r₂
+  pub rest : Members
+  pub ahead : MembersLeft s₂ t₂ here left rest
+  pub fields : LocatedFields
+  pub defines : fieldsAt s₂ rest ≡ fine fields
+  pub less : sizesMembers rest < word t₂ r₂ 4
+  pub stays : fieldsAnswer required given (given .fields) ≡ fieldsAnswer required given fields
+
+module _ {s₁ s₂ t₁ t₂ : List ℕ} {r₁ r₂ : ℕ} {required : Bool} where
+  pub fields-start : (j : FieldsJudgeable s₁ s₂ t₁ t₂ r₁ r₂) → 0 < r₂ → {left : ℕ} → left ≡ word t₂ r₂ 3
+      → InFields s₁ s₂ t₁ t₂ r₁ r₂ required (r₂ + 1) left
+  fields-start j l e =
+      let o = part-object (j .schema) l in
+      record {
+        given = j;
+        rest = j .schema .members;
+        ahead = members-start o e;
+        fields = j .fields;
+        defines = j .defines;
+        less = omega (arith, row (as-row o) .subtree);
+        stays = refl;
+      }
+
+  module _ {here left : ℕ} (a : InFields s₁ s₂ t₁ t₂ r₁ r₂ required here left) where
+    pub fields-end : {m : Mismatch} → left ≤ 0 → m ≡ nothing → FieldsJudged s₁ s₂ t₁ t₂ r₁ r₂ required m
+    fields-end l e =
+        let q : fine no-field ≡ fine (a .fields) = sym (ap (fieldsAt s₂) (members-end (a .ahead) l)) ∙ a .defines in
+        let f : no-field ≡ a .fields = cc in
+        conclude-fields required (a .given) (e ∙ ap (fieldsAnswer required (a .given)) f ∙ sym (a .stays))
+
+    abbrev pub field-here : 0 < left → MemberHere s₂ t₂ here (a .rest)
+    field-here l = member-here (a .ahead) l
+
+    pub field-less : 0 < left → word t₂ (here + 1) 4 < word t₂ r₂ 4
+    field-less l = omega (arith, row (field-here l .value) .subtree, a .less, ap sizesMembers (field-here l .is))
+
+-- the field there: its name was read as x, and v was found for it in the document's object
+pub record FieldSought (s₁ s₂ t₁ t₂ : List ℕ) (r₁ r₂ : ℕ) (required : Bool) (here left : ℕ) (x : Record) (v : ℕ) : Type 0 where
+  pub ahead : InFields s₁ s₂ t₁ t₂ r₁ r₂ required here left
+  pub some : 0 < left
+  pub reads : Reads t₂ here x
+  pub finds : Finds s₁ t₁ r₁ (nameOf s₂ (x .first) (x .end)) v
+
+module _ {s₁ s₂ t₁ t₂ : List ℕ} {r₁ r₂ : ℕ} {required : Bool} {here left : ℕ} {x : Record} {v : ℕ} (i : FieldSought s₁ s₂ t₁ t₂ r₁ r₂ required here left x v) where
+  abbrev one : MemberHere s₂ t₂ here (i .ahead .rest)
+  one = field-here (i .ahead) (i .some)
+
+  abbrev object-judged : ObjectRow s₁ t₁ r₁
+  object-judged = i .ahead .given .document
+
+  -- its definition, and the fields behind it
+  added-here : Added (x .first) (nameOf s₂ (x .first) (x .end)) (definitionAt s₂ (one .value .tree)) (fieldsAt s₂ (one .others)) (i .ahead .fields)
+  added-here = added-fine (x .first) _ _ _ (i .ahead .fields) (sym (ap (fieldsAt s₂) (member-read one (i .reads))) ∙ i .ahead .defines)
+
+  -- its mismatch, by the value under its name
+  abbrev of-value : Option Node → Mismatch
+  of-value o = judged o (absence required (object-judged .first) (x .first)) (mismatchAt s₁ (added-here .definition))
+
+  pub this : Mismatch
+  this = of-value (lookup s₁ (nameOf s₂ (x .first) (x .end)) (object-judged .members))
+
+  all-fields : fieldsAnswer required (i .ahead .given) (i .ahead .given .fields) ≡ orElse this (fieldsAnswer required (i .ahead .given) (added-here .others))
+  unfolding this
+  all-fields = i .ahead .stays ∙ ap (fieldsAnswer required (i .ahead .given)) (added-here .adds)
+
+  field-stops : {m : Mismatch} → m ≡ this → (m .code ≡ 0 → ⊥) → FieldsJudged s₁ s₂ t₁ t₂ r₁ r₂ required m
+  field-stops e c = conclude-fields required (i .ahead .given) (e ∙ sym (all-fields ∙ or-stops this _ (rw e at c)))
+
+  -- where it has none, the others count
+  pub field-next : this .code ≡ 0 → {y : Record} → Reads t₂ (here + 1) y → InFields s₁ s₂ t₁ t₂ r₁ r₂ required (y .next) (left - 1)
+  field-next c p = record {
+    given = i .ahead .given;
+    rest = one .others;
+    ahead = members-next (i .ahead .ahead) one (p .next);
+    fields = added-here .others;
+    defines = added-here .define;
+    less = omega (arith, i .ahead .less, ap sizesMembers (one .is));
+    stays = all-fields ∙ or-goes-on this _ c;
+  }
+
+  module _ (l : 0 < v) where
+    abbrev there : Found s₁ t₁ (nameOf s₂ (x .first) (x .end)) (object-judged .members) v
+    there = found object-judged (i .finds) l
+
+    pub field-judgeable : Judgeable s₁ s₂ t₁ t₂ v (here + 1)
+    field-judgeable = record { document = there .value; schema = one .value; definition = added-here .definition; defines = added-here .defines }
+
+    module _ {m : Mismatch} (h : Judged s₁ s₂ t₁ t₂ v (here + 1) m) where
+      is-this : m ≡ this
+      unfolding this field-judgeable
+      is-this = h .tells field-judgeable ∙ sym (ap of-value (there .is))
+
+      pub field-fails : (m .code ≡ 0 → ⊥) → FieldsJudged s₁ s₂ t₁ t₂ r₁ r₂ required m
+      field-fails c = field-stops is-this c
+
+      pub field-meets : m .code ≡ 0 → this .code ≡ 0
+      field-meets c = rw is-this at c
+
+  module _ (l : v ≤ 0) where
+    is-absent : this ≡ absence required (object-judged .first) (x .first)
+    unfolding this
+    is-absent = ap of-value (not-found object-judged (i .finds) (omega arith))
+
+    pub field-missing : required ≡ true → {b : ℕ} → b ≡ word t₁ r₁ 1 → {m : Mismatch} → m ≡ mismatch 21 b (x .first)
+        → FieldsJudged s₁ s₂ t₁ t₂ r₁ r₂ required m
+    field-missing q {b} g {m} e =
+        let f : b ≡ object-judged .first = g ∙ row (as-row object-judged) .first in
+        let z : this ≡ missing (object-judged .first) (x .first) = is-absent ∙ ap (λ (c : Bool). absence c (object-judged .first) (x .first)) q in
+        field-stops (e ∙ ap (λ (b : ℕ). mismatch 21 b (x .first)) f ∙ sym z) (λ c. (let k : m .code ≡ 21 = rw e in omega arith))
+
+    pub field-skipped : required ≡ false → this .code ≡ 0
+    field-skipped q = ap (λ (m : Mismatch). m .code) (is-absent ∙ ap (λ (c : Bool). absence c (object-judged .first) (x .first)) q)

@@ -1,0 +1,750 @@
+-- The walk over a value and a definition meets its contracts. The measure is twice the rows of the definition, with one more in `judge`; fields that are
+-- absent, at row 0, count none. The loops' invariants are `InArray`, `InMap` and `InFields`; `Judges` has a law for each way out. Below each member's name
+-- stands what is known at its places.
+use Prim.Native.Nat.{ℕ, _+_, _*_, _≤_, _<_}
+use mathlib.Core.Path.{_≡_, sym, _∙_}
+use mathlib.Core.Logic.{⊎-elim}
+use native.Mathlib.Omega.{arith}
+use borrow.Author.Needs.{needs}
+use lib.ListN.{length}
+use mir.Syntax.{w64}
+use mir.Val.{Fits}
+use Rattle.model.specs.Text.{text}
+use Rattle.reader.specs.Holding.{word}
+use Rattle.schema.specs.Walking.{ObjectRow, Finds}
+use Rattle.schema.proofs.Words.{plain}
+use Rattle.schema.proofs.Trees.{in-table, as-row, part-object, quotes-read, row-behind, MemberHere}
+use Rattle.schema.proofs.Defines.{partRows, part-rows}
+use Rattle.schema.proofs.Judges.{Under, under, GenericRead, reads-array, reads-map, reads-object, Turn, turn-stops}
+use Rattle.schema.proofs.Judges.{InArray, array-other, array-start, array-turn, array-next, array-end}
+use Rattle.schema.proofs.Judges.{InMap, map-other, map-start, map-turn, map-next, map-end}
+use Rattle.schema.proofs.Judges.{InBody, object-other, object-start, fields-found, part-less, required-stops, optional-ends}
+use Rattle.schema.proofs.Judges.{InFields, FieldSought, fields-none, fields-start, fields-end, field-here, field-less}
+use Rattle.schema.proofs.Judges.{this, field-next, field-judgeable, field-fails, field-meets, field-missing, field-skipped}
+use borrow.Fn.Kinds.{In}
+use borrow.Fn.PlainCycle.{Measures, is, falls, and}
+use Rattle.schema.proofs.judging.judge.Reads as judge
+use Rattle.schema.proofs.judging.judge.Kinds as judge-kinds
+use Rattle.schema.proofs.judging.+judge+judge_array+judge_fields+judge_map+judge_object.Lts-judge as judge-lts
+use Rattle.schema.proofs.judging.judge_array.Reads as judge-array
+use Rattle.schema.proofs.judging.judge_array.Kinds as judge-array-kinds
+use Rattle.schema.proofs.judging.+judge+judge_array+judge_fields+judge_map+judge_object.Lts-judge_array as judge-array-lts
+use Rattle.schema.proofs.judging.judge_fields.Reads as judge-fields
+use Rattle.schema.proofs.judging.judge_fields.Kinds as judge-fields-kinds
+use Rattle.schema.proofs.judging.+judge+judge_array+judge_fields+judge_map+judge_object.Lts-judge_fields as judge-fields-lts
+use Rattle.schema.proofs.judging.judge_map.Reads as judge-map
+use Rattle.schema.proofs.judging.judge_map.Kinds as judge-map-kinds
+use Rattle.schema.proofs.judging.+judge+judge_array+judge_fields+judge_map+judge_object.Lts-judge_map as judge-map-lts
+use Rattle.schema.proofs.judging.judge_object.Reads as judge-object
+use Rattle.schema.proofs.judging.judge_object.Kinds as judge-object-kinds
+use Rattle.schema.proofs.judging.+judge+judge_array+judge_fields+judge_map+judge_object.Lts-judge_object as judge-object-lts
+use Rattle.schema.proofs.judging.Mismatch.at.Reads as at-reads
+use Rattle.schema.proofs.judging.Mismatch.none.Reads as none-reads
+use Rattle.schema.proofs.judging.judge_named.Reads as judge-named-reads
+use Rattle.schema.proofs.names.generic_name.Reads as generic-name-reads
+use Rattle.schema.proofs.rows.find.Reads as find-reads
+use Rattle.schema.proofs.rows.row_at.Reads as row-at-reads
+use Rattle.schema.proofs.judging.+judge+judge_array+judge_fields+judge_map+judge_object.{statement}
+use Rattle.schema.proofs.judging.+judge+judge_array+judge_fields+judge_map+judge_object.Tie.{close}
+
+abbrev μ-judge : Measures 4 judge-kinds.ps ℕ
+μ-judge κs a = 2 * word (a .1 .1 .1 .0 .now) (a .1 .1 .1 .1 .1 .0) 4 + 1
+
+abbrev μ-judge-array : Measures 4 judge-array-kinds.ps ℕ
+μ-judge-array κs a = 2 * word (a .1 .1 .1 .0 .now) (a .1 .1 .1 .1 .1 .0) 4
+
+abbrev μ-judge-fields : Measures 4 judge-fields-kinds.ps ℕ
+μ-judge-fields κs a = 2 * partRows (a .1 .1 .1 .0 .now) (a .1 .1 .1 .1 .1 .0)
+
+abbrev μ-judge-map : Measures 4 judge-map-kinds.ps ℕ
+μ-judge-map κs a = 2 * word (a .1 .1 .1 .0 .now) (a .1 .1 .1 .1 .1 .0) 4
+
+abbrev μ-judge-object : Measures 4 judge-object-kinds.ps ℕ
+μ-judge-object κs a = 2 * word (a .1 .1 .1 .0 .now) (a .1 .1 .1 .1 .1 .0) 4
+
+abbrev judge-at : ℕ → In 4 judge-kinds.ps
+judge-at t = and 4 judge-kinds.ps (is 4 judge-kinds.ps μ-judge t) judge.Pre
+
+abbrev judge-below : ℕ → In 4 judge-kinds.ps
+judge-below t = and 4 judge-kinds.ps (falls 4 judge-kinds.ps _<_ μ-judge t) judge.Pre
+
+abbrev judge-array-at : ℕ → In 4 judge-array-kinds.ps
+judge-array-at t = and 4 judge-array-kinds.ps (is 4 judge-array-kinds.ps μ-judge-array t) judge-array.Pre
+
+abbrev judge-array-below : ℕ → In 4 judge-array-kinds.ps
+judge-array-below t = and 4 judge-array-kinds.ps (falls 4 judge-array-kinds.ps _<_ μ-judge-array t) judge-array.Pre
+
+abbrev judge-fields-at : ℕ → In 4 judge-fields-kinds.ps
+judge-fields-at t = and 4 judge-fields-kinds.ps (is 4 judge-fields-kinds.ps μ-judge-fields t) judge-fields.Pre
+
+abbrev judge-fields-below : ℕ → In 4 judge-fields-kinds.ps
+judge-fields-below t = and 4 judge-fields-kinds.ps (falls 4 judge-fields-kinds.ps _<_ μ-judge-fields t) judge-fields.Pre
+
+abbrev judge-map-at : ℕ → In 4 judge-map-kinds.ps
+judge-map-at t = and 4 judge-map-kinds.ps (is 4 judge-map-kinds.ps μ-judge-map t) judge-map.Pre
+
+abbrev judge-map-below : ℕ → In 4 judge-map-kinds.ps
+judge-map-below t = and 4 judge-map-kinds.ps (falls 4 judge-map-kinds.ps _<_ μ-judge-map t) judge-map.Pre
+
+abbrev judge-object-at : ℕ → In 4 judge-object-kinds.ps
+judge-object-at t = and 4 judge-object-kinds.ps (is 4 judge-object-kinds.ps μ-judge-object t) judge-object.Pre
+
+abbrev judge-object-below : ℕ → In 4 judge-object-kinds.ps
+judge-object-below t = and 4 judge-object-kinds.ps (falls 4 judge-object-kinds.ps _<_ μ-judge-object t) judge-object.Pre
+
+-- ---- judge
+
+abbrev judge-claims : ℕ → judge-lts.Claims
+judge-claims t = (
+  row-at-reads.Asked,
+  row-at-reads.Learnt,
+  judge-named-reads.Asked,
+  judge-named-reads.Learnt,
+  generic-name-reads.Asked,
+  generic-name-reads.Learnt,
+  judge-array-below t,
+  judge-array.Post,
+  judge-map-below t,
+  judge-map.Post,
+  judge-object-below t,
+  judge-object.Post,
+)
+
+module _ (t : ℕ) where
+  -- the entry
+  abbrev judge-entry : judge-lts.After-row-at (judge-claims t) (judge-at t) judge.Post
+      → judge-lts.Start (judge-claims t) (judge-at t) judge.Post
+  judge-entry c = c .before .before .before .before .before
+
+  -- a definition that is no string, and its one member
+  judge-under : (c : judge-lts.Else1 (judge-claims t) (judge-at t) judge.Post) →
+      let s = judge-entry (c .before .before) in
+      Under (s .args .schema .now) (s .args .rows2 .now) (s .args .by) (s .pre .1 .definition)
+  judge-under c =
+      let r = c .before .before in
+      let j = judge-entry r .pre .1 in
+      under (j .schema) (j .defines) (λ e. c .if1 .left (r .row-at .ensures .kind ∙ e))
+
+  -- the quotes of the member's name
+  judge-quotes : (c : judge-lts.After-row-at2 (judge-claims t) (judge-at t) judge.Post) →
+      let x = c .row-at2 .result in
+      (x .first + 2 ≤ x .end) × (x .end ≤ length (judge-entry (c .before .before .before) .args .schema .now))
+  judge-quotes c = quotes-read (c .row-at2 .ensures) (judge-under (c .before) .quoted)
+
+  -- the name and what it is
+  judge-generic : (c : judge-lts.After-generic-name (judge-claims t) (judge-at t) judge.Post) →
+      let r = c .before .before .before .before in
+      let a = judge-entry (r .before .before .before) .args in
+      GenericRead (a .document .now) (a .schema .now) (a .rows1 .now) (a .rows2 .now) (a .at) (a .by) (r .row-at2 .result) (c .generic-name .result)
+  judge-generic c =
+      let r = c .before .before .before .before in
+      let i = r .before in
+      record {
+        given = judge-entry (i .before .before) .pre .1;
+        other = λ e. i .if1 .left (i .before .before .row-at .ensures .kind ∙ e);
+        reads = r .row-at2 .ensures;
+        is = c .generic-name .ensures;
+      }
+
+  judge-less : (c : judge-lts.After-generic-name (judge-claims t) (judge-at t) judge.Post) →
+      let a = judge-entry (c .before .before .before .before .before .before .before) .args in
+      2 * word (a .rows2 .now) (a .by) 4 < t
+  judge-less c = omega (arith, judge-entry (c .before .before .before .before .before .before .before) .pre .0)
+
+  judge-row-at-requires : judge-lts.Need-row-at-requires (judge-claims t) (judge-at t) judge.Post
+  judge-row-at-requires c κs = in-table (c .before .before .before .before .pre .1 .schema)
+
+  judge-judge-named-requires : judge-lts.Need-judge-named-requires (judge-claims t) (judge-at t) judge.Post
+  judge-judge-named-requires c κs =
+      let r = c .before .before in
+      (judge-entry r .pre .1, sym (r .row-at .ensures .kind) ∙ c .if1 .taken)
+
+  judge-returns : judge-lts.Need-returns (judge-claims t) (judge-at t) judge.Post
+  judge-returns c = c .judge-named .ensures
+
+  judge-add-row-at : judge-lts.Need-add-row-at (judge-claims t) (judge-at t) judge.Post
+  judge-add-row-at c = omega (arith, judge-under c .in-table .here, judge-entry (c .before .before) .good)
+
+  judge-row-at-requires-2 : judge-lts.Need-row-at-requires-2 (judge-claims t) (judge-at t) judge.Post
+  judge-row-at-requires-2 c κs = judge-under c .in-table
+
+  judge-cast-from : judge-lts.Need-cast-from (judge-claims t) (judge-at t) judge.Post
+  judge-cast-from c = search needs
+
+  judge-add-from : judge-lts.Need-add-from (judge-claims t) (judge-at t) judge.Post
+  judge-add-from c = omega (arith, judge-quotes (c .before), judge-entry (c .before .before .before .before) .good)
+
+  judge-cast-to : judge-lts.Need-cast-to (judge-claims t) (judge-at t) judge.Post
+  judge-cast-to c = search needs
+
+  judge-sub-to : judge-lts.Need-sub-to (judge-claims t) (judge-at t) judge.Post
+  judge-sub-to c = omega (arith, judge-quotes (c .before .before))
+
+  judge-sub-generic-name : judge-lts.Need-sub-generic-name (judge-claims t) (judge-at t) judge.Post
+  judge-sub-generic-name c = omega (arith, judge-quotes (c .before .before))
+
+  judge-part-generic-name-start : judge-lts.Need-part-generic-name-start (judge-claims t) (judge-at t) judge.Post
+  judge-part-generic-name-start c = omega (arith, judge-quotes (c .before .before))
+
+  judge-part-generic-name-end : judge-lts.Need-part-generic-name-end (judge-claims t) (judge-at t) judge.Post
+  judge-part-generic-name-end c = omega (arith, judge-quotes (c .before .before))
+
+  judge-generic-name-requires : judge-lts.Need-generic-name-requires (judge-claims t) (judge-at t) judge.Post
+  judge-generic-name-requires c κs = tt
+
+  judge-enum-told : judge-lts.Need-enum-told (judge-claims t) (judge-at t) judge.Post
+  judge-enum-told c = search needs
+
+  judge-judge-array-requires : judge-lts.Need-judge-array-requires (judge-claims t) (judge-at t) judge.Post
+  judge-judge-array-requires c κs = let g = c .before .before in (judge-less g, reads-array (judge-generic g) (c .enum-told .given .1))
+
+  judge-enum-told-2 : judge-lts.Need-enum-told-2 (judge-claims t) (judge-at t) judge.Post
+  judge-enum-told-2 c = search needs
+
+  judge-judge-map-requires : judge-lts.Need-judge-map-requires (judge-claims t) (judge-at t) judge.Post
+  judge-judge-map-requires c κs = let g = c .before .before in (judge-less g, reads-map (judge-generic g) (c .enum-told2 .given .1))
+
+  judge-judge-object-requires : judge-lts.Need-judge-object-requires (judge-claims t) (judge-at t) judge.Post
+  judge-judge-object-requires c κs = (judge-less (c .before), reads-object (judge-generic (c .before)) (c .match .keys3))
+
+  judge-returns-2 : judge-lts.Need-returns-2 (judge-claims t) (judge-at t) judge.Post
+  judge-returns-2 c = c .judge-array .ensures
+
+  judge-returns-3 : judge-lts.Need-returns-3 (judge-claims t) (judge-at t) judge.Post
+  judge-returns-3 c = c .judge-map .ensures
+
+  judge-returns-4 : judge-lts.Need-returns-4 (judge-claims t) (judge-at t) judge.Post
+  judge-returns-4 c = c .judge-object .ensures
+
+-- ---- judge_array
+
+abbrev judge-array-claims : ℕ → judge-array-lts.Claims
+judge-array-claims t = (row-at-reads.Asked, row-at-reads.Learnt, at-reads.Asked, at-reads.Learnt, judge-below t, judge.Post, none-reads.Asked, none-reads.Learnt)
+
+abbrev judge-array-Inv-loop : judge-array-lts.InvT-loop
+judge-array-Inv-loop document schema rows1 rows2 at by left₀ row₀ left row = InArray document schema rows1 rows2 at by row left
+
+abbrev judge-array-μ-loop : judge-array-lts.MeasureT-loop
+judge-array-μ-loop document schema rows1 rows2 at by left₀ row₀ left row = left
+
+module _ (t : ℕ) where
+  -- the entry
+  abbrev array-entry : judge-array-lts.After-row-at (judge-array-claims t) (judge-array-at t) judge-array.Post judge-array-Inv-loop judge-array-μ-loop
+      → judge-array-lts.Start (judge-array-claims t) (judge-array-at t) judge-array.Post judge-array-Inv-loop judge-array-μ-loop
+  array-entry c = c .before .before .before .before .before
+
+  -- the next element
+  array-here : (c : judge-array-lts.In-loop (judge-array-claims t) (judge-array-at t) judge-array.Post judge-array-Inv-loop judge-array-μ-loop) →
+      let a = array-entry (c .before .before .before .before) .args in
+      Turn (a .document .now) (a .schema .now) (a .rows1 .now) (a .rows2 .now) (a .at) (a .by) (c .before .loop .row)
+  array-here c = array-turn (c .before .loop .inv) (c .loop-test .taken)
+
+  judge-array-row-at-requires : judge-array-lts.Need-row-at-requires (judge-array-claims t) (judge-array-at t) judge-array.Post judge-array-Inv-loop judge-array-μ-loop
+  judge-array-row-at-requires c κs = in-table (c .before .before .before .before .pre .1 .given .document)
+
+  judge-array-row-at-requires-2 : judge-array-lts.Need-row-at-requires-2 (judge-array-claims t) (judge-array-at t) judge-array.Post judge-array-Inv-loop judge-array-μ-loop
+  judge-array-row-at-requires-2 c κs = in-table (array-entry (c .before .before) .pre .1 .given .schema)
+
+  judge-array-at-requires : judge-array-lts.Need-at-requires (judge-array-claims t) (judge-array-at t) judge-array.Post judge-array-Inv-loop judge-array-μ-loop
+  judge-array-at-requires c κs = tt
+
+  judge-array-returns : judge-array-lts.Need-returns (judge-array-claims t) (judge-array-at t) judge-array.Post judge-array-Inv-loop judge-array-μ-loop
+  judge-array-returns c =
+      let r = c .before .before .before .before in
+      array-other (array-entry r .pre .1) (r .row-at .ensures) (c .before .row-at2 .ensures) (c .before .before .if1 .taken) (c .at .ensures)
+
+  judge-array-add-row : judge-array-lts.Need-add-row (judge-array-claims t) (judge-array-at t) judge-array.Post judge-array-Inv-loop judge-array-μ-loop
+  judge-array-add-row c =
+      let s = array-entry (c .before .before) in
+      omega (arith, in-table (s .pre .1 .given .document) .here, s .good)
+
+  judge-array-loop-holds : judge-array-lts.Need-loop-holds (judge-array-claims t) (judge-array-at t) judge-array.Post judge-array-Inv-loop judge-array-μ-loop
+  judge-array-loop-holds c = let r = c .before .before in array-start (array-entry r .pre .1) (r .row-at .ensures) (c .if1 .left)
+
+  judge-array-add-judge : judge-array-lts.Need-add-judge (judge-array-claims t) (judge-array-at t) judge-array.Post judge-array-Inv-loop judge-array-μ-loop
+  judge-array-add-judge c = omega (arith, in-table (array-here c .one .schema) .here, array-entry (c .before .before .before .before) .good)
+
+  judge-array-judge-requires : judge-array-lts.Need-judge-requires (judge-array-claims t) (judge-array-at t) judge-array.Post judge-array-Inv-loop judge-array-μ-loop
+  judge-array-judge-requires c κs = (omega (arith, array-here c .less, array-entry (c .before .before .before .before) .pre .0), array-here c .one)
+
+  judge-array-returns-2 : judge-array-lts.Need-returns-2 (judge-array-claims t) (judge-array-at t) judge-array.Post judge-array-Inv-loop judge-array-μ-loop
+  judge-array-returns-2 c = turn-stops (array-here (c .before .before .before)) (c .before .before .judge .ensures) (c .if2 .taken)
+
+  judge-array-row-at-requires-3 : judge-array-lts.Need-row-at-requires-3 (judge-array-claims t) (judge-array-at t) judge-array.Post judge-array-Inv-loop judge-array-μ-loop
+  judge-array-row-at-requires-3 c κs = in-table (array-here (c .before .before .before) .one .document)
+
+  judge-array-sub-left : judge-array-lts.Need-sub-left (judge-array-claims t) (judge-array-at t) judge-array.Post judge-array-Inv-loop judge-array-μ-loop
+  judge-array-sub-left c = omega arith
+
+  judge-array-loop-less : judge-array-lts.Need-loop-less (judge-array-claims t) (judge-array-at t) judge-array.Post judge-array-Inv-loop judge-array-μ-loop
+  judge-array-loop-less c = omega arith
+
+  judge-array-loop-again : judge-array-lts.Need-loop-again (judge-array-claims t) (judge-array-at t) judge-array.Post judge-array-Inv-loop judge-array-μ-loop
+  judge-array-loop-again c =
+      let i = c .before .before .before .before in
+      array-next (i .before .loop .inv) (i .loop-test .taken) (c .before .before .before .judge .ensures) (c .before .if2 .left) (c .row-at3 .ensures)
+
+  judge-array-none-requires : judge-array-lts.Need-none-requires (judge-array-claims t) (judge-array-at t) judge-array.Post judge-array-Inv-loop judge-array-μ-loop
+  judge-array-none-requires c κs = tt
+
+  judge-array-returns-3 : judge-array-lts.Need-returns-3 (judge-array-claims t) (judge-array-at t) judge-array.Post judge-array-Inv-loop judge-array-μ-loop
+  judge-array-returns-3 c = array-end (c .before .before .loop .inv) (c .before .loop-test .left) (c .none .ensures)
+
+-- ---- judge_fields
+
+abbrev judge-fields-claims : ℕ → judge-fields-lts.Claims
+judge-fields-claims t = (
+  none-reads.Asked,
+  none-reads.Learnt,
+  row-at-reads.Asked,
+  row-at-reads.Learnt,
+  find-reads.Asked,
+  find-reads.Learnt,
+  judge-below t,
+  judge.Post,
+  at-reads.Asked,
+  at-reads.Learnt,
+)
+
+abbrev judge-fields-Inv-loop : judge-fields-lts.InvT-loop
+judge-fields-Inv-loop document schema rows1 rows2 at fields required brace left₀ row₀ left row = InFields document schema rows1 rows2 at fields required row left
+
+abbrev judge-fields-μ-loop : judge-fields-lts.MeasureT-loop
+judge-fields-μ-loop document schema rows1 rows2 at fields required brace left₀ row₀ left row = left
+
+module _ (t : ℕ) where
+  -- the entry, where there are fields
+  abbrev fields-entry : judge-fields-lts.Else1 (judge-fields-claims t) (judge-fields-at t) judge-fields.Post judge-fields-Inv-loop judge-fields-μ-loop
+      → judge-fields-lts.Start (judge-fields-claims t) (judge-fields-at t) judge-fields.Post judge-fields-Inv-loop judge-fields-μ-loop
+  fields-entry c = c .before .before .before .before .before
+
+  fields-row : (c : judge-fields-lts.Else1 (judge-fields-claims t) (judge-fields-at t) judge-fields.Post judge-fields-Inv-loop judge-fields-μ-loop)
+      → 0 < fields-entry c .args .fields
+  fields-row c = omega (arith, c .if1 .left)
+
+  fields-object : (c : judge-fields-lts.Else1 (judge-fields-claims t) (judge-fields-at t) judge-fields.Post judge-fields-Inv-loop judge-fields-μ-loop) →
+      let a = fields-entry c .args in
+      ObjectRow (a .schema .now) (a .rows2 .now) (a .fields)
+  fields-object c = part-object (fields-entry c .pre .1 .schema) (fields-row c)
+
+  -- the entry, from a turn
+  abbrev turn-entry : judge-fields-lts.In-loop (judge-fields-claims t) (judge-fields-at t) judge-fields.Post judge-fields-Inv-loop judge-fields-μ-loop
+      → judge-fields-lts.Start (judge-fields-claims t) (judge-fields-at t) judge-fields.Post judge-fields-Inv-loop judge-fields-μ-loop
+  turn-entry c = fields-entry (c .before .before .before .before)
+
+  -- the next field
+  fields-here : (c : judge-fields-lts.In-loop (judge-fields-claims t) (judge-fields-at t) judge-fields.Post judge-fields-Inv-loop judge-fields-μ-loop) →
+      let a = turn-entry c .args in
+      MemberHere (a .schema .now) (a .rows2 .now) (c .before .loop .row) (c .before .loop .inv .rest)
+  fields-here c = field-here (c .before .loop .inv) (c .loop-test .taken)
+
+  fields-fits : (c : judge-fields-lts.In-loop (judge-fields-claims t) (judge-fields-at t) judge-fields.Post judge-fields-Inv-loop judge-fields-μ-loop)
+      → Fits w64 (c .before .loop .row + 1)
+  fields-fits c = omega (arith, in-table (fields-here c .value) .here, turn-entry c .good)
+
+  fields-less : (c : judge-fields-lts.In-loop (judge-fields-claims t) (judge-fields-at t) judge-fields.Post judge-fields-Inv-loop judge-fields-μ-loop) →
+      let a = turn-entry c .args in
+      2 * word (a .rows2 .now) (c .before .loop .row + 1) 4 + 1 < t
+  fields-less c =
+      let s = turn-entry c in
+      let rows = part-rows (s .args .rows2 .now) (s .args .fields) (fields-row (c .before .before .before .before)) in
+      omega (arith, field-less (c .before .loop .inv) (c .loop-test .taken), rows, s .pre .0)
+
+  -- the quotes of its name
+  fields-quotes : (c : judge-fields-lts.After-row-at3 (judge-fields-claims t) (judge-fields-at t) judge-fields.Post judge-fields-Inv-loop judge-fields-μ-loop) →
+      let x = c .row-at3 .result in
+      (x .first + 2 ≤ x .end) × (x .end ≤ length (turn-entry (c .before) .args .schema .now))
+  fields-quotes c = quotes-read (c .row-at3 .ensures) (fields-here (c .before) .quoted)
+
+  -- its name was looked up
+  fields-sought : (c : judge-fields-lts.After-find (judge-fields-claims t) (judge-fields-at t) judge-fields.Post judge-fields-Inv-loop judge-fields-μ-loop) →
+      let r = c .before .before .before .before in
+      let a = turn-entry (r .before) .args in
+      FieldSought (a .document .now) (a .schema .now) (a .rows1 .now) (a .rows2 .now) (a .at) (a .fields) (a .required)
+      (r .before .before .loop .row) (r .before .before .loop .left) (r .row-at3 .result) (c .find .result)
+  fields-sought c =
+      let r = c .before .before .before .before in
+      record { ahead = r .before .before .loop .inv; some = r .before .loop-test .taken; reads = r .row-at3 .ensures; finds = c .find .ensures }
+
+  -- it has no mismatch
+  fields-passed : (c : judge-fields-lts.Joined2 (judge-fields-claims t) (judge-fields-at t) judge-fields.Post judge-fields-Inv-loop judge-fields-μ-loop)
+      → this (fields-sought (c .before)) .code ≡ 0
+  fields-passed c =
+      let i = fields-sought (c .before) in
+      ⊎-elim (λ w. field-meets i (w .0 .taken) (w .1 .ensures) (w .3 .left)) (λ w. field-skipped i (w .0 .left) (w .1 .left)) (c .if2 .came)
+
+  judge-fields-none-requires : judge-fields-lts.Need-none-requires (judge-fields-claims t) (judge-fields-at t) judge-fields.Post judge-fields-Inv-loop judge-fields-μ-loop
+  judge-fields-none-requires c κs = tt
+
+  judge-fields-returns : judge-fields-lts.Need-returns (judge-fields-claims t) (judge-fields-at t) judge-fields.Post judge-fields-Inv-loop judge-fields-μ-loop
+  judge-fields-returns c =
+      let s = c .before .before .before .before .before .before in
+      fields-none (s .args .required) (s .pre .1) (c .before .if1 .taken) (c .none .ensures)
+
+  judge-fields-row-at-requires : judge-fields-lts.Need-row-at-requires (judge-fields-claims t) (judge-fields-at t) judge-fields.Post judge-fields-Inv-loop judge-fields-μ-loop
+  judge-fields-row-at-requires c κs = in-table (as-row (fields-entry c .pre .1 .document))
+
+  judge-fields-row-at-requires-2 : judge-fields-lts.Need-row-at-requires-2 (judge-fields-claims t) (judge-fields-at t) judge-fields.Post judge-fields-Inv-loop judge-fields-μ-loop
+  judge-fields-row-at-requires-2 c κs = in-table (as-row (fields-object (c .before)))
+
+  judge-fields-add-row : judge-fields-lts.Need-add-row (judge-fields-claims t) (judge-fields-at t) judge-fields.Post judge-fields-Inv-loop judge-fields-μ-loop
+  judge-fields-add-row c = omega (arith, in-table (as-row (fields-object (c .before .before))) .here, fields-entry (c .before .before) .good)
+
+  judge-fields-loop-holds : judge-fields-lts.Need-loop-holds (judge-fields-claims t) (judge-fields-at t) judge-fields.Post judge-fields-Inv-loop judge-fields-μ-loop
+  judge-fields-loop-holds c =
+      let i = c .before .before in
+      fields-start (fields-entry i .pre .1) (fields-row i) (c .row-at2 .ensures .children)
+
+  judge-fields-row-at-requires-3 : judge-fields-lts.Need-row-at-requires-3 (judge-fields-claims t) (judge-fields-at t) judge-fields.Post judge-fields-Inv-loop judge-fields-μ-loop
+  judge-fields-row-at-requires-3 c κs = fields-here c .in-table
+
+  judge-fields-cast-from : judge-fields-lts.Need-cast-from (judge-fields-claims t) (judge-fields-at t) judge-fields.Post judge-fields-Inv-loop judge-fields-μ-loop
+  judge-fields-cast-from c = search needs
+
+  judge-fields-add-from : judge-fields-lts.Need-add-from (judge-fields-claims t) (judge-fields-at t) judge-fields.Post judge-fields-Inv-loop judge-fields-μ-loop
+  judge-fields-add-from c = omega (arith, fields-quotes (c .before), turn-entry (c .before .before) .good)
+
+  judge-fields-cast-to : judge-fields-lts.Need-cast-to (judge-fields-claims t) (judge-fields-at t) judge-fields.Post judge-fields-Inv-loop judge-fields-μ-loop
+  judge-fields-cast-to c = search needs
+
+  judge-fields-sub-to : judge-fields-lts.Need-sub-to (judge-fields-claims t) (judge-fields-at t) judge-fields.Post judge-fields-Inv-loop judge-fields-μ-loop
+  judge-fields-sub-to c = omega (arith, fields-quotes (c .before .before))
+
+  judge-fields-sub-find : judge-fields-lts.Need-sub-find (judge-fields-claims t) (judge-fields-at t) judge-fields.Post judge-fields-Inv-loop judge-fields-μ-loop
+  judge-fields-sub-find c = omega (arith, fields-quotes (c .before .before))
+
+  judge-fields-part-find-start : judge-fields-lts.Need-part-find-start (judge-fields-claims t) (judge-fields-at t) judge-fields.Post judge-fields-Inv-loop judge-fields-μ-loop
+  judge-fields-part-find-start c = omega (arith, fields-quotes (c .before .before))
+
+  judge-fields-part-find-end : judge-fields-lts.Need-part-find-end (judge-fields-claims t) (judge-fields-at t) judge-fields.Post judge-fields-Inv-loop judge-fields-μ-loop
+  judge-fields-part-find-end c = omega (arith, fields-quotes (c .before .before))
+
+  judge-fields-find-requires : judge-fields-lts.Need-find-requires (judge-fields-claims t) (judge-fields-at t) judge-fields.Post judge-fields-Inv-loop judge-fields-μ-loop
+  judge-fields-find-requires c κs = turn-entry (c .before .before .before .before) .pre .1 .document
+
+  judge-fields-add-judge : judge-fields-lts.Need-add-judge (judge-fields-claims t) (judge-fields-at t) judge-fields.Post judge-fields-Inv-loop judge-fields-μ-loop
+  judge-fields-add-judge c = fields-fits (c .before .before .before .before .before .before)
+
+  judge-fields-judge-requires : judge-fields-lts.Need-judge-requires (judge-fields-claims t) (judge-fields-at t) judge-fields.Post judge-fields-Inv-loop judge-fields-μ-loop
+  judge-fields-judge-requires c κs = (fields-less (c .before .before .before .before .before .before), field-judgeable (fields-sought (c .before)) (c .if2 .taken))
+
+  judge-fields-returns-2 : judge-fields-lts.Need-returns-2 (judge-fields-claims t) (judge-fields-at t) judge-fields.Post judge-fields-Inv-loop judge-fields-μ-loop
+  judge-fields-returns-2 c =
+      let i = c .before .before .before in
+      field-fails (fields-sought (i .before)) (i .if2 .taken) (c .before .before .judge .ensures) (c .if3 .taken)
+
+  judge-fields-at-requires : judge-fields-lts.Need-at-requires (judge-fields-claims t) (judge-fields-at t) judge-fields.Post judge-fields-Inv-loop judge-fields-μ-loop
+  judge-fields-at-requires c κs = tt
+
+  judge-fields-returns-3 : judge-fields-lts.Need-returns-3 (judge-fields-claims t) (judge-fields-at t) judge-fields.Post judge-fields-Inv-loop judge-fields-μ-loop
+  judge-fields-returns-3 c =
+      let f = c .before .before .before in
+      let brace = f .before .before .before .before .before .before .before .before .row-at .ensures .first in
+      field-missing (fields-sought f) (c .before .before .if2 .left) (c .before .if4 .taken) brace (c .at .ensures)
+
+  judge-fields-add-row-at : judge-fields-lts.Need-add-row-at (judge-fields-claims t) (judge-fields-at t) judge-fields.Post judge-fields-Inv-loop judge-fields-μ-loop
+  judge-fields-add-row-at c = fields-fits (c .before .before .before .before .before .before)
+
+  judge-fields-row-at-requires-4 : judge-fields-lts.Need-row-at-requires-4 (judge-fields-claims t) (judge-fields-at t) judge-fields.Post judge-fields-Inv-loop judge-fields-μ-loop
+  judge-fields-row-at-requires-4 c κs = in-table (fields-here (c .before .before .before .before .before .before) .value)
+
+  judge-fields-sub-left : judge-fields-lts.Need-sub-left (judge-fields-claims t) (judge-fields-at t) judge-fields.Post judge-fields-Inv-loop judge-fields-μ-loop
+  judge-fields-sub-left c = omega arith
+
+  judge-fields-loop-less : judge-fields-lts.Need-loop-less (judge-fields-claims t) (judge-fields-at t) judge-fields.Post judge-fields-Inv-loop judge-fields-μ-loop
+  judge-fields-loop-less c = omega arith
+
+  judge-fields-loop-again : judge-fields-lts.Need-loop-again (judge-fields-claims t) (judge-fields-at t) judge-fields.Post judge-fields-Inv-loop judge-fields-μ-loop
+  judge-fields-loop-again c = field-next (fields-sought (c .before .before)) (fields-passed (c .before)) (c .row-at4 .ensures)
+
+  judge-fields-none-requires-2 : judge-fields-lts.Need-none-requires-2 (judge-fields-claims t) (judge-fields-at t) judge-fields.Post judge-fields-Inv-loop judge-fields-μ-loop
+  judge-fields-none-requires-2 c κs = tt
+
+  judge-fields-returns-4 : judge-fields-lts.Need-returns-4 (judge-fields-claims t) (judge-fields-at t) judge-fields.Post judge-fields-Inv-loop judge-fields-μ-loop
+  judge-fields-returns-4 c = fields-end (c .before .before .loop .inv) (c .before .loop-test .left) (c .none2 .ensures)
+
+-- ---- judge_map
+
+abbrev judge-map-claims : ℕ → judge-map-lts.Claims
+judge-map-claims t = (row-at-reads.Asked, row-at-reads.Learnt, at-reads.Asked, at-reads.Learnt, judge-below t, judge.Post, none-reads.Asked, none-reads.Learnt)
+
+abbrev judge-map-Inv-loop : judge-map-lts.InvT-loop
+judge-map-Inv-loop document schema rows1 rows2 at by left₀ row₀ left row = InMap document schema rows1 rows2 at by row left
+
+abbrev judge-map-μ-loop : judge-map-lts.MeasureT-loop
+judge-map-μ-loop document schema rows1 rows2 at by left₀ row₀ left row = left
+
+module _ (t : ℕ) where
+  -- the entry
+  abbrev map-entry : judge-map-lts.After-row-at (judge-map-claims t) (judge-map-at t) judge-map.Post judge-map-Inv-loop judge-map-μ-loop
+      → judge-map-lts.Start (judge-map-claims t) (judge-map-at t) judge-map.Post judge-map-Inv-loop judge-map-μ-loop
+  map-entry c = c .before .before .before .before .before
+
+  -- the next member's value
+  map-here : (c : judge-map-lts.In-loop (judge-map-claims t) (judge-map-at t) judge-map.Post judge-map-Inv-loop judge-map-μ-loop) →
+      let a = map-entry (c .before .before .before .before) .args in
+      Turn (a .document .now) (a .schema .now) (a .rows1 .now) (a .rows2 .now) (a .at) (a .by) (c .before .loop .row)
+  map-here c = map-turn (c .before .loop .inv) (c .loop-test .taken)
+
+  judge-map-row-at-requires : judge-map-lts.Need-row-at-requires (judge-map-claims t) (judge-map-at t) judge-map.Post judge-map-Inv-loop judge-map-μ-loop
+  judge-map-row-at-requires c κs = in-table (c .before .before .before .before .pre .1 .given .document)
+
+  judge-map-row-at-requires-2 : judge-map-lts.Need-row-at-requires-2 (judge-map-claims t) (judge-map-at t) judge-map.Post judge-map-Inv-loop judge-map-μ-loop
+  judge-map-row-at-requires-2 c κs = in-table (map-entry (c .before .before) .pre .1 .given .schema)
+
+  judge-map-at-requires : judge-map-lts.Need-at-requires (judge-map-claims t) (judge-map-at t) judge-map.Post judge-map-Inv-loop judge-map-μ-loop
+  judge-map-at-requires c κs = tt
+
+  judge-map-returns : judge-map-lts.Need-returns (judge-map-claims t) (judge-map-at t) judge-map.Post judge-map-Inv-loop judge-map-μ-loop
+  judge-map-returns c =
+      let r = c .before .before .before .before in
+      map-other (map-entry r .pre .1) (r .row-at .ensures) (c .before .row-at2 .ensures) (c .before .before .if1 .taken) (c .at .ensures)
+
+  judge-map-add-row : judge-map-lts.Need-add-row (judge-map-claims t) (judge-map-at t) judge-map.Post judge-map-Inv-loop judge-map-μ-loop
+  judge-map-add-row c = let s = map-entry (c .before .before) in omega (arith, in-table (s .pre .1 .given .document) .here, s .good)
+
+  judge-map-loop-holds : judge-map-lts.Need-loop-holds (judge-map-claims t) (judge-map-at t) judge-map.Post judge-map-Inv-loop judge-map-μ-loop
+  judge-map-loop-holds c = let r = c .before .before in map-start (map-entry r .pre .1) (r .row-at .ensures) (c .if1 .left)
+
+  judge-map-add-judge : judge-map-lts.Need-add-judge (judge-map-claims t) (judge-map-at t) judge-map.Post judge-map-Inv-loop judge-map-μ-loop
+  judge-map-add-judge c = omega (arith, in-table (map-here c .one .schema) .here, map-entry (c .before .before .before .before) .good)
+
+  judge-map-judge-requires : judge-map-lts.Need-judge-requires (judge-map-claims t) (judge-map-at t) judge-map.Post judge-map-Inv-loop judge-map-μ-loop
+  judge-map-judge-requires c κs = (omega (arith, map-here c .less, map-entry (c .before .before .before .before) .pre .0), map-here c .one)
+
+  judge-map-returns-2 : judge-map-lts.Need-returns-2 (judge-map-claims t) (judge-map-at t) judge-map.Post judge-map-Inv-loop judge-map-μ-loop
+  judge-map-returns-2 c = turn-stops (map-here (c .before .before .before)) (c .before .before .judge .ensures) (c .if2 .taken)
+
+  judge-map-row-at-requires-3 : judge-map-lts.Need-row-at-requires-3 (judge-map-claims t) (judge-map-at t) judge-map.Post judge-map-Inv-loop judge-map-μ-loop
+  judge-map-row-at-requires-3 c κs = in-table (map-here (c .before .before .before) .one .document)
+
+  judge-map-add-row-2 : judge-map-lts.Need-add-row-2 (judge-map-claims t) (judge-map-at t) judge-map.Post judge-map-Inv-loop judge-map-μ-loop
+  judge-map-add-row-2 c =
+      let i = c .before .before .before .before .before in
+      omega (arith, row-behind (map-here i .one .document) (c .before .row-at3 .ensures .next), map-entry (i .before .before .before .before) .good)
+
+  judge-map-sub-left : judge-map-lts.Need-sub-left (judge-map-claims t) (judge-map-at t) judge-map.Post judge-map-Inv-loop judge-map-μ-loop
+  judge-map-sub-left c = omega arith
+
+  judge-map-loop-less : judge-map-lts.Need-loop-less (judge-map-claims t) (judge-map-at t) judge-map.Post judge-map-Inv-loop judge-map-μ-loop
+  judge-map-loop-less c = omega arith
+
+  judge-map-loop-again : judge-map-lts.Need-loop-again (judge-map-claims t) (judge-map-at t) judge-map.Post judge-map-Inv-loop judge-map-μ-loop
+  judge-map-loop-again c =
+      let i = c .before .before .before .before .before in
+      map-next (i .before .loop .inv) (i .loop-test .taken) (c .before .before .before .before .judge .ensures) (c .before .before .if2 .left) (c .before .row-at3 .ensures)
+
+  judge-map-none-requires : judge-map-lts.Need-none-requires (judge-map-claims t) (judge-map-at t) judge-map.Post judge-map-Inv-loop judge-map-μ-loop
+  judge-map-none-requires c κs = tt
+
+  judge-map-returns-3 : judge-map-lts.Need-returns-3 (judge-map-claims t) (judge-map-at t) judge-map.Post judge-map-Inv-loop judge-map-μ-loop
+  judge-map-returns-3 c = map-end (c .before .before .loop .inv) (c .before .loop-test .left) (c .none .ensures)
+
+-- ---- judge_object
+
+abbrev judge-object-claims : ℕ → judge-object-lts.Claims
+judge-object-claims t = (
+  row-at-reads.Asked,
+  row-at-reads.Learnt,
+  at-reads.Asked,
+  at-reads.Learnt,
+  find-reads.Asked,
+  find-reads.Learnt,
+  judge-fields-below t,
+  judge-fields.Post,
+)
+
+module _ (t : ℕ) where
+  -- the entry
+  abbrev object-entry : judge-object-lts.After-row-at (judge-object-claims t) (judge-object-at t) judge-object.Post
+      → judge-object-lts.Start (judge-object-claims t) (judge-object-at t) judge-object.Post
+  object-entry c = c .before .before .before .before .before
+
+  -- an object, and the body of the definition
+  object-body : (c : judge-object-lts.Else1 (judge-object-claims t) (judge-object-at t) judge-object.Post) →
+      let a = object-entry (c .before .before) .args in
+      InBody (a .document .now) (a .schema .now) (a .rows1 .now) (a .rows2 .now) (a .at) (a .by)
+  object-body c = let r = c .before .before in object-start (object-entry r .pre .1) (r .row-at .ensures) (c .if1 .left)
+
+  object-fits : (c : judge-object-lts.Else1 (judge-object-claims t) (judge-object-at t) judge-object.Post)
+      → Fits w64 (object-entry (c .before .before) .args .by + 2)
+  object-fits c = omega (arith, in-table (as-row (object-body c .body)) .here, object-entry (c .before .before) .good)
+
+  -- the rows of both parts
+  object-required : (c : judge-object-lts.After-find (judge-object-claims t) (judge-object-at t) judge-object.Post) →
+      let a = object-entry (c .before .before .before .before) .args in
+      Finds (a .schema .now) (a .rows2 .now) (a .by + 2) (text "required") (c .find .result)
+  object-required c = rw (plain .required) at (c .find .ensures)
+
+  object-optional : (c : judge-object-lts.After-find2 (judge-object-claims t) (judge-object-at t) judge-object.Post) →
+      let a = object-entry (c .before .before .before .before .before .before .before .before .before) .args in
+      Finds (a .schema .now) (a .rows2 .now) (a .by + 2) (text "optional") (c .find2 .result)
+  object-optional c = rw (plain .optional) at (c .find2 .ensures)
+
+  judge-object-row-at-requires : judge-object-lts.Need-row-at-requires (judge-object-claims t) (judge-object-at t) judge-object.Post
+  judge-object-row-at-requires c κs = in-table (c .before .before .before .before .pre .1 .given .document)
+
+  judge-object-row-at-requires-2 : judge-object-lts.Need-row-at-requires-2 (judge-object-claims t) (judge-object-at t) judge-object.Post
+  judge-object-row-at-requires-2 c κs = in-table (object-entry (c .before .before) .pre .1 .given .schema)
+
+  judge-object-at-requires : judge-object-lts.Need-at-requires (judge-object-claims t) (judge-object-at t) judge-object.Post
+  judge-object-at-requires c κs = tt
+
+  judge-object-returns : judge-object-lts.Need-returns (judge-object-claims t) (judge-object-at t) judge-object.Post
+  judge-object-returns c =
+      let r = c .before .before .before .before in
+      object-other (object-entry r .pre .1) (r .row-at .ensures) (c .before .row-at2 .ensures) (c .before .before .if1 .taken) (c .at .ensures)
+
+  judge-object-add-find : judge-object-lts.Need-add-find (judge-object-claims t) (judge-object-at t) judge-object.Post
+  judge-object-add-find c = object-fits c
+
+  judge-object-slice-aggregate-find : judge-object-lts.Need-slice-aggregate-find (judge-object-claims t) (judge-object-at t) judge-object.Post
+  judge-object-slice-aggregate-find c = search needs
+
+  judge-object-find-requires : judge-object-lts.Need-find-requires (judge-object-claims t) (judge-object-at t) judge-object.Post
+  judge-object-find-requires c κs = object-body (c .before) .body
+
+  judge-object-judge-fields-requires : judge-object-lts.Need-judge-fields-requires (judge-object-claims t) (judge-object-at t) judge-object.Post
+  judge-object-judge-fields-requires c κs =
+      let i = c .before .before in
+      let o = object-body i in
+      (omega (arith, part-less o (object-required c), object-entry (i .before .before) .pre .0), fields-found o (object-required c) (o .first))
+
+  judge-object-returns-2 : judge-object-lts.Need-returns-2 (judge-object-claims t) (judge-object-at t) judge-object.Post
+  judge-object-returns-2 c =
+      let f = c .before .before .before in
+      required-stops (object-body (f .before .before)) (object-required f) (c .before .before .judge-fields .ensures) (c .if2 .taken)
+
+  judge-object-add-find-2 : judge-object-lts.Need-add-find-2 (judge-object-claims t) (judge-object-at t) judge-object.Post
+  judge-object-add-find-2 c = object-fits (c .before .before .before .before .before)
+
+  judge-object-slice-aggregate-find-2 : judge-object-lts.Need-slice-aggregate-find-2 (judge-object-claims t) (judge-object-at t) judge-object.Post
+  judge-object-slice-aggregate-find-2 c = search needs
+
+  judge-object-find-requires-2 : judge-object-lts.Need-find-requires-2 (judge-object-claims t) (judge-object-at t) judge-object.Post
+  judge-object-find-requires-2 c κs = object-body (c .before .before .before .before .before .before) .body
+
+  judge-object-judge-fields-requires-2 : judge-object-lts.Need-judge-fields-requires-2 (judge-object-claims t) (judge-object-at t) judge-object.Post
+  judge-object-judge-fields-requires-2 c κs =
+      let i = c .before .before .before .before .before .before .before in
+      let o = object-body i in
+      (omega (arith, part-less o (object-optional c), object-entry (i .before .before) .pre .0), fields-found o (object-optional c) (o .second))
+
+  judge-object-returns-3 : judge-object-lts.Need-returns-3 (judge-object-claims t) (judge-object-at t) judge-object.Post
+  judge-object-returns-3 c =
+      let i = c .before .before .before in
+      let g = i .before .before in
+      let f = g .before in
+      optional-ends (object-body (f .before .before)) (object-required f) (g .judge-fields .ensures) (i .if2 .left) (object-optional (c .before)) (c .judge-fields2 .ensures)
+
+pub +judge+judge-array+judge-fields+judge-map+judge-object-spec : {M : Type 1} → statement M
++judge+judge-array+judge-fields+judge-map+judge-object-spec =
+    close μ-judge μ-judge-array μ-judge-fields μ-judge-map μ-judge-object (λ t. judge-lts.spec (judge-claims t) (judge-at t)
+    judge.Post
+    (judge-row-at-requires t)
+    (judge-judge-named-requires t)
+    (judge-returns t)
+    (judge-add-row-at t)
+    (judge-row-at-requires-2 t)
+    (judge-cast-from t)
+    (judge-add-from t)
+    (judge-cast-to t)
+    (judge-sub-to t)
+    (judge-sub-generic-name t)
+    (judge-part-generic-name-start t)
+    (judge-part-generic-name-end t)
+    (judge-generic-name-requires t)
+    (judge-enum-told t)
+    (judge-judge-array-requires t)
+    (judge-enum-told-2 t)
+    (judge-judge-map-requires t)
+    (judge-judge-object-requires t)
+    (judge-returns-2 t)
+    (judge-returns-3 t)
+    (judge-returns-4 t))
+    (λ t. judge-array-lts.spec (judge-array-claims t) (judge-array-at t)
+    judge-array.Post
+    judge-array-Inv-loop
+    judge-array-μ-loop
+    (judge-array-row-at-requires t)
+    (judge-array-row-at-requires-2 t)
+    (judge-array-at-requires t)
+    (judge-array-returns t)
+    (judge-array-add-row t)
+    (judge-array-loop-holds t)
+    (judge-array-add-judge t)
+    (judge-array-judge-requires t)
+    (judge-array-returns-2 t)
+    (judge-array-row-at-requires-3 t)
+    (judge-array-sub-left t)
+    (judge-array-loop-less t)
+    (judge-array-loop-again t)
+    (judge-array-none-requires t)
+    (judge-array-returns-3 t))
+    (λ t. judge-fields-lts.spec (judge-fields-claims t) (judge-fields-at t)
+    judge-fields.Post
+    judge-fields-Inv-loop
+    judge-fields-μ-loop
+    (judge-fields-none-requires t)
+    (judge-fields-returns t)
+    (judge-fields-row-at-requires t)
+    (judge-fields-row-at-requires-2 t)
+    (judge-fields-add-row t)
+    (judge-fields-loop-holds t)
+    (judge-fields-row-at-requires-3 t)
+    (judge-fields-cast-from t)
+    (judge-fields-add-from t)
+    (judge-fields-cast-to t)
+    (judge-fields-sub-to t)
+    (judge-fields-sub-find t)
+    (judge-fields-part-find-start t)
+    (judge-fields-part-find-end t)
+    (judge-fields-find-requires t)
+    (judge-fields-add-judge t)
+    (judge-fields-judge-requires t)
+    (judge-fields-returns-2 t)
+    (judge-fields-at-requires t)
+    (judge-fields-returns-3 t)
+    (judge-fields-add-row-at t)
+    (judge-fields-row-at-requires-4 t)
+    (judge-fields-sub-left t)
+    (judge-fields-loop-less t)
+    (judge-fields-loop-again t)
+    (judge-fields-none-requires-2 t)
+    (judge-fields-returns-4 t))
+    (λ t. judge-map-lts.spec (judge-map-claims t) (judge-map-at t)
+    judge-map.Post
+    judge-map-Inv-loop
+    judge-map-μ-loop
+    (judge-map-row-at-requires t)
+    (judge-map-row-at-requires-2 t)
+    (judge-map-at-requires t)
+    (judge-map-returns t)
+    (judge-map-add-row t)
+    (judge-map-loop-holds t)
+    (judge-map-add-judge t)
+    (judge-map-judge-requires t)
+    (judge-map-returns-2 t)
+    (judge-map-row-at-requires-3 t)
+    (judge-map-add-row-2 t)
+    (judge-map-sub-left t)
+    (judge-map-loop-less t)
+    (judge-map-loop-again t)
+    (judge-map-none-requires t)
+    (judge-map-returns-3 t))
+    λ t. judge-object-lts.spec (judge-object-claims t) (judge-object-at t)
+    judge-object.Post
+    (judge-object-row-at-requires t)
+    (judge-object-row-at-requires-2 t)
+    (judge-object-at-requires t)
+    (judge-object-returns t)
+    (judge-object-add-find t)
+    (judge-object-slice-aggregate-find t)
+    (judge-object-find-requires t)
+    (judge-object-judge-fields-requires t)
+    (judge-object-returns-2 t)
+    (judge-object-add-find-2 t)
+    (judge-object-slice-aggregate-find-2 t)
+    (judge-object-find-requires-2 t)
+    (judge-object-judge-fields-requires-2 t)
+    (judge-object-returns-3 t)

@@ -1,0 +1,6 @@
+-- In the order of 01; then what private contracts cite.
+pub mod Located
+pub mod Mismatch
+pub mod Check
+pub mod Names
+pub mod Walking

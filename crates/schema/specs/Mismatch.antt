@@ -1,0 +1,145 @@
+-- The first mismatch of a value with a definition, with places (01, "Definitions": "First misfit"). 01's term is misfit.
+use Prim.Native.Nat.{ℕ}
+use mathlib.Core.Bool.{Bool, true, false, cond}
+use mathlib.Core.Option.{Option, none, some}
+use mathlib.Core.List.{List}
+use lib.Dec.{eqb}
+use Rattle.model.specs.Text.{same}
+use Rattle.model.specs.Definition.{Named, JSON, Schema, Float, Integer, String, Boolean, DateTime, definitionOf}
+use Rattle.model.specs.Date.{isDate}
+use Rattle.model.specs.Meeting.{isSome}
+use Rattle.chars.specs.Tokens.{Kind, Null, False, True, Whole, Fractional, Quoted}
+use Rattle.reader.specs.Tree.{Node, scalar, array, object, Nodes, none as no-node, more, Members, no-member, member}
+use Rattle.reader.specs.Grammar.{nameOf}
+use Rattle.reader.specs.Spelling.{valueOf}
+use Rattle.schema.specs.Located.{Located, named-at, array-at, map-at, object-at, LocatedFields, no-field, field, placeOf}
+use Rattle.schema.specs.declared.judging.Mismatch.{Mismatch}
+
+-- code, place in the document, other in the schema
+abbrev pub mismatch : ℕ → ℕ → ℕ → Mismatch
+mismatch code place other = record { code = code; place = place; other = other }
+
+-- the value meets the definition
+abbrev pub nothing : Mismatch
+nothing = mismatch 0 0 0
+
+-- what is judged first counts
+abbrev pub orElse : Mismatch → Mismatch → Mismatch
+orElse a b = cond (eqb (a .code) 0) b a
+
+-- "20 wrong kind of value: first byte, document; definition's first byte, schema", where the test fails
+abbrev pub unless : Bool → ℕ → ℕ → Mismatch
+unless ok place other = cond ok nothing (mismatch 20 place other)
+
+-- "Integer takes kind 4 only, Float kinds 4 and 5"
+abbrev pub isWhole : Kind → Bool
+isWhole Null = false
+isWhole False = false
+isWhole True = false
+isWhole Whole = true
+isWhole Fractional = false
+isWhole Quoted = false
+
+abbrev pub isNumber : Kind → Bool
+isNumber Null = false
+isNumber False = false
+isNumber True = false
+isNumber Whole = true
+isNumber Fractional = true
+isNumber Quoted = false
+
+abbrev pub isString : Kind → Bool
+isString Null = false
+isString False = false
+isString True = false
+isString Whole = false
+isString Fractional = false
+isString Quoted = true
+
+abbrev pub isBoolean : Kind → Bool
+isBoolean Null = false
+isBoolean False = true
+isBoolean True = true
+isBoolean Whole = false
+isBoolean Fractional = false
+isBoolean Quoted = false
+
+-- a test of a value's kind, which no array and no object passes
+abbrev pub ifScalar : (Kind → Bool) → Node → Bool
+ifScalar p (scalar k f e) = p k
+ifScalar p (array f e ns) = false
+ifScalar p (object f e ms) = false
+
+-- "Under DateTime a value that isn't a string is 20"; a string that is no date is 22 at its opening quote
+abbrev pub dateOf : List ℕ → ℕ → Kind → ℕ → ℕ → Mismatch
+dateOf s p Null f e = mismatch 20 f p
+dateOf s p False f e = mismatch 20 f p
+dateOf s p True f e = mismatch 20 f p
+dateOf s p Whole f e = mismatch 20 f p
+dateOf s p Fractional f e = mismatch 20 f p
+dateOf s p Quoted f e = cond (isDate (nameOf s f e)) nothing (mismatch 22 f p)
+
+abbrev pub dateAt : List ℕ → ℕ → Node → Mismatch
+dateAt s p (scalar k f e) = dateOf s p k f e
+dateAt s p (array f e ns) = mismatch 20 f p
+dateAt s p (object f e ms) = mismatch 20 f p
+
+-- a definition at p that is a type name; "Schema takes every value that is a definition; any other is 20 at that value"
+abbrev pub namedAt : List ℕ → ℕ → Named → Node → Mismatch
+namedAt s p JSON n = nothing
+namedAt s p Schema n = unless (isSome (definitionOf (valueOf s n))) (placeOf n) p
+namedAt s p Float n = unless (ifScalar isNumber n) (placeOf n) p
+namedAt s p Integer n = unless (ifScalar isWhole n) (placeOf n) p
+namedAt s p String n = unless (ifScalar isString n) (placeOf n) p
+namedAt s p Boolean n = unless (ifScalar isBoolean n) (placeOf n) p
+namedAt s p DateTime n = dateAt s p n
+
+-- "A value's kind is judged before what it holds."
+abbrev pub ifArray : Node → ℕ → (Nodes → Mismatch) → Mismatch
+ifArray (scalar k f e) p j = mismatch 20 f p
+ifArray (array f e ns) p j = j ns
+ifArray (object f e ms) p j = mismatch 20 f p
+
+abbrev pub ifObject : Node → ℕ → (Members → Mismatch) → Mismatch
+ifObject (scalar k f e) p j = mismatch 20 f p
+ifObject (array f e ns) p j = mismatch 20 f p
+ifObject (object f e ms) p j = j ms
+
+-- "Array by element, Map by member, in document order"
+abbrev pub firstElement : (Node → Mismatch) → Nodes → Mismatch
+firstElement j no-node = nothing
+firstElement j (more n ns) = orElse (j n) (firstElement j ns)
+
+abbrev pub firstMember : (Node → Mismatch) → Members → Mismatch
+firstMember j no-member = nothing
+firstMember j (member f e n ms) = orElse (j n) (firstMember j ms)
+
+-- the value under the name k
+abbrev pub lookup : List ℕ → List ℕ → Members → Option Node
+lookup s k no-member = none
+lookup s k (member f e n ms) = cond (same k (nameOf s f e)) (some n) (lookup s k ms)
+
+abbrev pub judged : Option Node → Mismatch → (Node → Mismatch) → Mismatch
+judged none absent j = absent
+judged (some n) absent j = j n
+
+-- "21 required name missing: the object's brace; opening quote of the name in the schema"
+abbrev pub missing : ℕ → ℕ → Mismatch
+missing brace q = mismatch 21 brace q
+
+-- an optional name may be absent
+abbrev pub skipped : ℕ → Mismatch
+skipped q = nothing
+
+abbrev mutual
+  -- the first mismatch of a value of the text s
+  pub mismatchAt : List ℕ → Located → Node → Mismatch
+  mismatchAt s (named-at p t) n = namedAt s p t n
+  mismatchAt s (array-at p d) n = ifArray n p (λ ns. firstElement (λ m. mismatchAt s d m) ns)
+  mismatchAt s (map-at p d) n = ifObject n p (λ ms. firstMember (λ m. mismatchAt s d m) ms)
+  mismatchAt s (object-at p r o) n = ifObject n p (λ ms. orElse (fieldsMismatch s (missing (placeOf n)) r ms) (fieldsMismatch s skipped o ms))
+
+  -- "names of "required" in schema order, each missing (21) or judged; then those of "optional" that are present, in schema order"
+  pub fieldsMismatch : List ℕ → (ℕ → Mismatch) → LocatedFields → Members → Mismatch
+  fieldsMismatch s absent no-field ms = nothing
+  fieldsMismatch s absent (field q n d fs) ms = orElse (judged (lookup s n ms) (absent q) (λ m. mismatchAt s d m)) (fieldsMismatch s absent fs ms)

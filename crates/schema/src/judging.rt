@@ -1,0 +1,238 @@
+// The first mismatch of a document's value with a definition (01, "Definitions": "First misfit").
+use crate::definitions::define;
+use crate::names::Generic;
+use crate::names::TypeName;
+use crate::names::generic_name;
+use crate::names::named_type;
+use crate::names::takes;
+use crate::rows::find;
+use crate::rows::row_at;
+use date::is_date;
+ghost use mathlib.Core.Path.{_≡_};
+ghost use Rattle.reader.specs.Holding.{word as wordOf};
+ghost use Rattle.schema.specs.Mismatch.{mismatch};
+ghost use Rattle.schema.specs.Walking.{Rowed, Judgeable, Judged, JudgedDate, ArrayJudgeable, MapJudgeable, BodyJudgeable, FieldsJudgeable, FieldsJudged};
+
+// Codes 20 to 22 with the place in the document and the other in the schema; code 0 where there is none.
+pub struct Mismatch {
+    pub code: u32,
+    pub place: u32,
+    pub other: u32,
+}
+
+impl Mismatch {
+    fn none() -> Self
+        ensures { λ r. ⌜ r ≡ mismatch 0 0 0 ⌝ }
+    {
+        Self {
+            code: 0,
+            place: 0,
+            other: 0,
+        }
+    }
+
+    fn at(code: u32, place: u32, other: u32) -> Self
+        ensures { λ r. ⌜ r ≡ mismatch code place other ⌝ }
+    {
+        Self { code, place, other }
+    }
+}
+
+// The value at a row against DateTime, whose definition begins at `other`.
+fn judge_date(document: &[u8], rows1: &[u32], at: usize, other: u32) -> Mismatch
+    requires { ⌜ Rowed (now document) (now rows1) at ⌝ }
+    ensures { λ r. ⌜ JudgedDate (now (document .entry)) (now (rows1 .entry)) at other r ⌝ }
+{
+    let value = row_at(rows1, at);
+    if value.kind != 6 {
+        return Mismatch::at(20, value.first, other);
+    }
+    let from = value.first as usize + 1;
+    let to = value.end as usize - 1;
+    if is_date(&document[from..to]) {
+        return Mismatch::none();
+    }
+    Mismatch::at(22, value.first, other)
+}
+
+// The value at row `at` of the document against the type name at row `by` of the schema.
+fn judge_named(
+    document: &[u8],
+    schema: &[u8],
+    rows1: &[u32],
+    rows2: &[u32],
+    at: usize,
+    by: usize,
+) -> Mismatch
+    requires { ⌜ Judgeable (now document) (now schema) (now rows1) (now rows2) at by ⌝ }
+    requires { ⌜ wordOf (now rows2) by 0 ≡ 6 ⌝ }
+    ensures { λ r. ⌜ Judged (now (document .entry)) (now (schema .entry)) (now (rows1 .entry)) (now (rows2 .entry)) at by r ⌝ }
+{
+    let value = row_at(rows1, at);
+    let definition = row_at(rows2, by);
+    let from = definition.first as usize + 1;
+    let to = definition.end as usize - 1;
+    let name = named_type(&schema[from..to]);
+    let fits = takes(name, value.kind);
+    match name {
+        TypeName::DateTime => judge_date(document, rows1, at, definition.first),
+        TypeName::Schema => {
+            if define(document, rows1, at).code == 0 {
+                return Mismatch::none();
+            }
+            Mismatch::at(20, value.first, definition.first)
+        }
+        _ => {
+            if fits {
+                return Mismatch::none();
+            }
+            Mismatch::at(20, value.first, definition.first)
+        }
+    }
+}
+
+// The first mismatch of the value at row `at` of the document with the definition at row `by` of the schema.
+pub fn judge(
+    document: &[u8],
+    schema: &[u8],
+    rows1: &[u32],
+    rows2: &[u32],
+    at: usize,
+    by: usize,
+) -> Mismatch
+    requires { ⌜ Judgeable (now document) (now schema) (now rows1) (now rows2) at by ⌝ }
+    ensures { λ r. ⌜ Judged (now (document .entry)) (now (schema .entry)) (now (rows1 .entry)) (now (rows2 .entry)) at by r ⌝ }
+{
+    if row_at(rows2, by).kind == 6 {
+        return judge_named(document, schema, rows1, rows2, at, by);
+    }
+    let name = row_at(rows2, by + 1);
+    let from = name.first as usize + 1;
+    let to = name.end as usize - 1;
+    match generic_name(&schema[from..to]) {
+        Generic::Array => judge_array(document, schema, rows1, rows2, at, by),
+        Generic::Map => judge_map(document, schema, rows1, rows2, at, by),
+        _ => judge_object(document, schema, rows1, rows2, at, by),
+    }
+}
+
+// The same of a definition under Array.
+fn judge_array(
+    document: &[u8],
+    schema: &[u8],
+    rows1: &[u32],
+    rows2: &[u32],
+    at: usize,
+    by: usize,
+) -> Mismatch
+    requires { ⌜ ArrayJudgeable (now document) (now schema) (now rows1) (now rows2) at by ⌝ }
+    ensures { λ r. ⌜ Judged (now (document .entry)) (now (schema .entry)) (now (rows1 .entry)) (now (rows2 .entry)) at by r ⌝ }
+{
+    let value = row_at(rows1, at);
+    if value.kind != 7 {
+        return Mismatch::at(20, value.first, row_at(rows2, by).first);
+    }
+    let mut left = value.children;
+    let mut row = at + 1;
+    while left > 0 {
+        let found = judge(document, schema, rows1, rows2, row, by + 2);
+        if found.code != 0 {
+            return found;
+        }
+        row = row_at(rows1, row).next;
+        left -= 1;
+    }
+    Mismatch::none()
+}
+
+// The same of a definition under Map.
+fn judge_map(
+    document: &[u8],
+    schema: &[u8],
+    rows1: &[u32],
+    rows2: &[u32],
+    at: usize,
+    by: usize,
+) -> Mismatch
+    requires { ⌜ MapJudgeable (now document) (now schema) (now rows1) (now rows2) at by ⌝ }
+    ensures { λ r. ⌜ Judged (now (document .entry)) (now (schema .entry)) (now (rows1 .entry)) (now (rows2 .entry)) at by r ⌝ }
+{
+    let value = row_at(rows1, at);
+    if value.kind != 8 {
+        return Mismatch::at(20, value.first, row_at(rows2, by).first);
+    }
+    let mut left = value.children;
+    let mut row = at + 2;
+    while left > 0 {
+        let found = judge(document, schema, rows1, rows2, row, by + 2);
+        if found.code != 0 {
+            return found;
+        }
+        row = row_at(rows1, row).next + 1;
+        left -= 1;
+    }
+    Mismatch::none()
+}
+
+// The same of a definition under Object.
+fn judge_object(
+    document: &[u8],
+    schema: &[u8],
+    rows1: &[u32],
+    rows2: &[u32],
+    at: usize,
+    by: usize,
+) -> Mismatch
+    requires { ⌜ BodyJudgeable (now document) (now schema) (now rows1) (now rows2) at by ⌝ }
+    ensures { λ r. ⌜ Judged (now (document .entry)) (now (schema .entry)) (now (rows1 .entry)) (now (rows2 .entry)) at by r ⌝ }
+{
+    let value = row_at(rows1, at);
+    if value.kind != 8 {
+        return Mismatch::at(20, value.first, row_at(rows2, by).first);
+    }
+    let required = find(schema, rows2, by + 2, b"required");
+    let found = judge_fields(document, schema, rows1, rows2, at, required, true);
+    if found.code != 0 {
+        return found;
+    }
+    let optional = find(schema, rows2, by + 2, b"optional");
+    judge_fields(document, schema, rows1, rows2, at, optional, false)
+}
+
+// The object at row `at` of the document against the fields at row `fields` of the schema, in their order; row 0 has none.
+fn judge_fields(
+    document: &[u8],
+    schema: &[u8],
+    rows1: &[u32],
+    rows2: &[u32],
+    at: usize,
+    fields: usize,
+    required: bool,
+) -> Mismatch
+    requires { ⌜ FieldsJudgeable (now document) (now schema) (now rows1) (now rows2) at fields ⌝ }
+    ensures { λ r. ⌜ FieldsJudged (now (document .entry)) (now (schema .entry)) (now (rows1 .entry)) (now (rows2 .entry)) at fields required r ⌝ }
+{
+    if fields == 0 {
+        return Mismatch::none();
+    }
+    let brace = row_at(rows1, at).first;
+    let mut left = row_at(rows2, fields).children;
+    let mut row = fields + 1;
+    while left > 0 {
+        let name = row_at(rows2, row);
+        let from = name.first as usize + 1;
+        let to = name.end as usize - 1;
+        let value = find(document, rows1, at, &schema[from..to]);
+        if value > 0 {
+            let found = judge(document, schema, rows1, rows2, value, row + 1);
+            if found.code != 0 {
+                return found;
+            }
+        } else if required {
+            return Mismatch::at(21, brace, name.first);
+        }
+        row = row_at(rows2, row + 1).next;
+        left -= 1;
+    }
+    Mismatch::none()
+}
