@@ -1,10 +1,9 @@
 -- Worked examples of the definitions, computed.
 use mathlib.Core.Path.{_≡_, refl}
-use mathlib.Core.List.{List, [], _∷_}
+use mathlib.Core.List.{[], _∷_}
 use mathlib.Core.Bool.{true, false}
-use Prim.Native.Nat.{ℕ}
 use Rattle.chars.specs.declared.characters.Step.the-variants.{Char, Quote, Refused}
-use Rattle.chars.specs.declared.strings.Scan.the-variants.{Ends, Stopped}
+use Rattle.chars.specs.declared.strings.Scan.the-variants.{Ends}
 use Rattle.chars.specs.Bytes.{codeOf, digit, named, lowest, highest, sixBits}
 use Rattle.chars.specs.Characters.{stopAt, wrongAt, hexPair, partnerAt, restAt, unicodeAt, escapeAt, twoAt, threeAt, fourAt, charFrom, charAt}
 use Rattle.chars.specs.Strings.{stringFrom, stringAt, charsFrom, charsAt, characters}

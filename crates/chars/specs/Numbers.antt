@@ -1,7 +1,7 @@
 -- Numbers (RFC 8259, section 6): number = [ minus ] int [ frac ] [ exp ].
 use Prim.Native.Nat.{ℕ, _+_}
 use mathlib.Core.List.{List}
-use mathlib.Core.Bool.{Bool, cond, _||_}
+use mathlib.Core.Bool.{cond, _||_}
 use lib.Dec.{eqb}
 use Rattle.model.specs.Value.{isDigit}
 use Rattle.chars.specs.Bytes.{byteAt}

@@ -1,11 +1,10 @@
 -- Worked examples of the definitions, computed.
-use Prim.Native.String.{String}
 use mathlib.Core.Path.{_≡_, refl}
 use mathlib.Core.Logic.{inl, inr}
 use mathlib.Core.Bool.{true, false}
-use mathlib.Core.List.{List, [], _∷_}
+use mathlib.Core.List.{[], _∷_}
 use Rattle.model.specs.Text.{text, same, isScalar, isText}
-use Rattle.model.specs.Value.{Value, null, boolean, number, string, array, object, vcons, vnil, mcons, mnil}
+use Rattle.model.specs.Value.{null, boolean, number, string, array, object, vcons, vnil, mcons, mnil}
 use Rattle.model.specs.Value.{isInt, isFraction, isExponent, isInteger, IsNumber, IsJson, hasName}
 
 names :

@@ -1,7 +1,5 @@
 -- The decision of Compare is right (01, demand 3): of two schemas' definitions, `subtype` says whether every value that meets the new one meets the old one.
-use Prim.Native.Nat.{ℕ}
 use mathlib.Core.Path.{_≡_}
-use mathlib.Core.List.{List}
 use mathlib.Core.Bool.{true, false}
 use mathlib.Core.Option.{some}
 use Rattle.model.specs.Value.{Value, IsJson}

@@ -3,7 +3,7 @@ use Prim.Native.Nat.{ℕ, suc, _+_, _*_, _≤_, _<_}
 use mathlib.Core.Path.{_≡_}
 use mathlib.Core.List.{List}
 use lib.ListN.{length, getD}
-use Rattle.chars.specs.Tokens.{Kind, kindNumber}
+use Rattle.chars.specs.Tokens.{kindNumber}
 use Rattle.chars.specs.Spelling.{IsQuoted, Spells}
 use Rattle.reader.specs.Tree.{Node, scalar, array, object, Nodes, none, more, Members, no-member, member}
 use Rattle.reader.specs.Rows.{rowWords, count, countMembers, size, sizes, sizesMembers}

@@ -1,8 +1,6 @@
 -- The rows of a value (01, "Rows").
-use Prim.Native.Nat.{ℕ, suc, _+_, _*_, _≤_}
-use mathlib.Core.Path.{_≡_}
+use Prim.Native.Nat.{ℕ, suc, _+_}
 use mathlib.Core.List.{List, [], _∷_, _++_}
-use lib.ListN.{length, getD}
 use Rattle.chars.specs.Tokens.{kindNumber}
 use Rattle.reader.specs.Tree.{Node, scalar, array, object, Nodes, none, more, Members, no-member, member}
 

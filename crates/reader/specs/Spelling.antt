@@ -1,10 +1,10 @@
 -- "A well-formed text stands for the value that it spells" (01, "Meeting"): space, escapes and places are forgotten.
-use Prim.Native.Nat.{ℕ, _+_, _-_}
+use Prim.Native.Nat.{ℕ}
 use mathlib.Core.Bool.{true, false}
 use mathlib.Core.List.{List}
 use Rattle.model.specs.Value.{Value, null, boolean, number, string, Values, vnil, vcons, mnil, mcons}
 use Rattle.model.specs.Value.{array as list, object as record-of, Members as ValueMembers}
-use Rattle.chars.specs.Strings.{characters, part}
+use Rattle.chars.specs.Strings.{part}
 use Rattle.chars.specs.Tokens.{Kind, Null, False, True, Whole, Fractional, Quoted}
 use Rattle.reader.specs.Tree.{Node, scalar, array, object, Nodes, none, more, Members, no-member, member}
 use Rattle.reader.specs.Grammar.{nameOf}

@@ -1,19 +1,18 @@
 -- Check answers 0 exactly where both texts are read with room, the schema is accepted and the document meets (01, "Three services", "Meeting").
-use Prim.Native.Nat.{ℕ, _≤_, _<_}
+use Prim.Native.Nat.{ℕ, _<_}
 use mathlib.Core.Path.{_≡_, refl, ap}
 use mathlib.Core.Logic.{_↔_}
 use mathlib.Core.List.{List}
-use mathlib.Core.Bool.{true, false, cond}
 use native.Mathlib.Omega.{arith}
 use lib.Dec.{leb, eqb}
-use borrow.Author.Tests.{leb-true, leb-false, le-leb, eqb-true, eqb-false}
+use borrow.Author.Tests.{leb-true, leb-false, eqb-true}
 use Rattle.model.specs.Meeting.{Meets}
 use Rattle.model.proofs.Basics.{both}
 use Rattle.chars.specs.Parse.{Parse, refused, parsed}
 use Rattle.reader.specs.Tree.{Node}
 use Rattle.reader.specs.Rows.{size}
 use Rattle.reader.specs.Spelling.{valueOf}
-use Rattle.reader.specs.Answer.{answer, rowsIn}
+use Rattle.reader.specs.Answer.{rowsIn}
 use Rattle.reader.specs.declared.answers.Answer.{Answer}
 use Rattle.reader.proofs.Theorems.{read-placed, read-json, read-code}
 use Rattle.schema.specs.Located.{Located, plain, Defined, faulty, fine, definitionAt}

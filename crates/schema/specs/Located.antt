@@ -6,7 +6,7 @@ use mathlib.Core.List.{List}
 use Rattle.model.specs.Text.{text, same}
 use Rattle.model.specs.Definition.{Named, namedBy, Def, named, array-of, map-of, object-of, Fields, fnil, fcons}
 use Rattle.chars.specs.Tokens.{Kind, Null, False, True, Whole, Fractional, Quoted}
-use Rattle.reader.specs.Tree.{Node, scalar, array, object, Nodes, Members, no-member, member}
+use Rattle.reader.specs.Tree.{Node, scalar, array, object, Members, no-member, member}
 use Rattle.reader.specs.Grammar.{nameOf}
 
 -- a definition, with its first byte; of a field, the opening quote of its name

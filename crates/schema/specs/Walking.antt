@@ -1,15 +1,14 @@
 -- For private contracts: what the walkers over rows are given, and what they answer.
 use Prim.Native.Nat.{ℕ, _+_, _*_, _≤_, _<_}
 use mathlib.Core.Path.{_≡_}
-use mathlib.Core.Logic.{_⊎_}
 use mathlib.Core.Bool.{Bool, true, false}
 use mathlib.Core.Option.{Option, none, some}
 use mathlib.Core.List.{List}
 use lib.ListN.{length}
 use Rattle.reader.specs.Tree.{Node, object, Members, no-member}
-use Rattle.reader.specs.Rows.{rowWords, countMembers}
-use Rattle.reader.specs.Holding.{word, Row, Holds, HoldsMembers, Placed, PlacedMembers}
-use Rattle.schema.specs.Located.{Located, array-at, map-at, object-at, LocatedFields, Defined, faulty, fine, placeOf, sharedAt, definitionAt, fieldsAt, bodyAt}
+use Rattle.reader.specs.Rows.{rowWords}
+use Rattle.reader.specs.Holding.{word, Holds, Placed}
+use Rattle.schema.specs.Located.{Located, array-at, map-at, object-at, LocatedFields, Defined, faulty, fine, sharedAt, definitionAt, fieldsAt, bodyAt}
 use Rattle.schema.specs.Mismatch.{lookup, dateAt, mismatchAt, fieldsMismatch, missing, skipped}
 use Rattle.schema.specs.declared.rows.Record.{Record}
 use Rattle.schema.specs.declared.definitions.Fault.{Fault}

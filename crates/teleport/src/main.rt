@@ -6,8 +6,8 @@ mod lines;
 
 use files::Loaded;
 
-// One byte over the limit of a text (65,536), so that a longer file gives the service a text over
-// its limit.
+// One byte over the limit of a document (65,536), so that a longer file gives the service a text
+// over its limit, be it a document or a schema.
 const TEXT: usize = 65537;
 
 // 01: "Its tables have 16,380 words each".
@@ -22,6 +22,28 @@ fn read() {
     };
     let mut table = [0u32; TABLE];
     lines::answer(reader::read(&text[..n], &mut table));
+}
+
+// `check FILE FILE`: a document and a schema.
+fn check() {
+    let mut document = [0u8; TEXT];
+    let Loaded::Bytes(n) = files::load(2, &mut document) else {
+        lines::no_file();
+        return;
+    };
+    let mut schema = [0u8; TEXT];
+    let Loaded::Bytes(m) = files::load(3, &mut schema) else {
+        lines::no_file();
+        return;
+    };
+    let mut table1 = [0u32; TABLE];
+    let mut table2 = [0u32; TABLE];
+    lines::answer(schema::check(
+        &document[..n],
+        &schema[..m],
+        &mut table1,
+        &mut table2,
+    ));
 }
 
 // Whether the program was started with this command, and with as many arguments as it takes: its
@@ -42,6 +64,8 @@ fn asks(command: &[u8], count: usize) -> bool {
 fn main() {
     if asks(b"read", 3) {
         read();
+    } else if asks(b"check", 4) {
+        check();
     } else {
         lines::no_file();
     }

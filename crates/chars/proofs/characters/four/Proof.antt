@@ -1,5 +1,4 @@
-use native.Mathlib.Omega.{arith}
-use borrow.Author.Tests.{lt-ltb, le-ltb, le-leb, lt-leb, eq-eqb, ne-eqb}
+use borrow.Author.Tests.{le-leb, lt-leb}
 use Rattle.chars.proofs.bytes.Laws.{lowest-least}
 use Rattle.chars.specs.Characters.{fourAt}
 use borrow.Author.Needs.{needs}

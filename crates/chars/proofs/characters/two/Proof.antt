@@ -1,4 +1,4 @@
-use borrow.Author.Tests.{le-leb, lt-leb, eq-eqb, ne-eqb}
+use borrow.Author.Tests.{le-leb, lt-leb}
 use Rattle.chars.specs.Characters.{twoAt}
 use borrow.Author.Needs.{needs}
 use Rattle.chars.proofs.characters.two.Statement.{statement}

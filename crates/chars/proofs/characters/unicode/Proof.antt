@@ -1,6 +1,6 @@
 use native.Mathlib.Omega.{arith}
 use mathlib.Core.Logic.{⊎-elim}
-use borrow.Author.Tests.{lt-ltb, le-ltb, le-leb, lt-leb, eq-eqb, ne-eqb}
+use borrow.Author.Tests.{le-leb, lt-leb}
 use Rattle.chars.specs.Characters.{unicodeAt}
 use borrow.Author.Needs.{needs}
 use Rattle.chars.proofs.characters.unicode.Statement.{statement}

@@ -1,6 +1,5 @@
 -- `accept` meets its contract: the laws of `Accepting`.
-use mathlib.Core.Path.{_≡_, ap, _∙_}
-use mathlib.Core.List.{List}
+use mathlib.Core.Path.{_≡_, _∙_}
 use borrow.Author.Needs.{needs}
 use lib.ListN.{length}
 use Rattle.reader.specs.Answer.{answerOf, tableOf}

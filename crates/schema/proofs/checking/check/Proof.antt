@@ -1,5 +1,5 @@
 -- `check` meets its contract: the laws of `Accepting`, and that it answers 0 exactly where the document meets (`CheckZero`).
-use mathlib.Core.Path.{_≡_, _∙_}
+use mathlib.Core.Path.{_≡_}
 use mathlib.Core.List.{List}
 use Prim.Native.Nat.{ℕ}
 use borrow.Author.Needs.{needs}
