@@ -1,4 +1,4 @@
--- What the contracts of `files.rt` cite. Assumes nothing.
+-- What the contracts of `files.rt` cite.
 use Prim.Native.Nat.{ℕ}
 use mathlib.Core.List.{List}
 use Rattle.io.specs.Counts.{Counts}

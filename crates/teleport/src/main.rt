@@ -38,12 +38,7 @@ fn check() {
     };
     let mut table1 = [0u32; TABLE];
     let mut table2 = [0u32; TABLE];
-    lines::answer(schema::check(
-        &document[..n],
-        &schema[..m],
-        &mut table1,
-        &mut table2,
-    ));
+    lines::answer(schema::check(&document[..n], &schema[..m], &mut table1, &mut table2));
 }
 
 // Whether the program was started with this command, and with as many arguments as it takes: its

@@ -2,6 +2,7 @@
 ghost use mathlib.Core.Path.{_≡_};
 ghost use lib.ListN.{length};
 ghost use Rattle.reader.specs.Answer.{documentLimits, readWithin, answerOf, tableOf};
+ghost use Rattle.schema.specs.Check.{readSchema, checkAnswer, checkTable};
 ghost use Rattle.teleport_c.specs.Words.{answerWords};
 
 // The four numbers of an answer.
@@ -18,4 +19,20 @@ pub extern "C" fn teleport_read(text: &[u8], table: &mut [u32], answer: &mut [u3
     ensures rows { λ _. ⌜ now (table .exit) ≡ tableOf (now (table .entry)) (readWithin documentLimits (now (text .entry))) ⌝ }
 {
     *answer = words(reader::read(text, table));
+}
+
+// Check: a document and a schema, with a table for each.
+#[no_mangle]
+pub extern "C" fn teleport_check(
+    document: &[u8],
+    schema: &[u8],
+    table1: &mut [u32],
+    table2: &mut [u32],
+    answer: &mut [u32; 4],
+)
+    ensures answers { λ _. ⌜ now (answer .exit) ≡ answerWords (checkAnswer (length (now (table1 .entry))) (length (now (table2 .entry))) (now (document .entry)) (now (schema .entry))) ⌝ }
+    ensures rows1 { λ _. ⌜ now (table1 .exit) ≡ checkTable (now (table1 .entry)) (length (now (table2 .entry))) (now (document .entry)) (now (schema .entry)) ⌝ }
+    ensures rows2 { λ _. ⌜ now (table2 .exit) ≡ tableOf (now (table2 .entry)) (readSchema (now (schema .entry))) ⌝ }
+{
+    *answer = words(schema::check(document, schema, table1, table2));
 }

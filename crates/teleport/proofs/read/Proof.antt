@@ -1,5 +1,5 @@
 -- `teleport::read` is safe and ends. What `load` ensures of its answer, at the case `Bytes n`, puts `text[..n]` within the buffer.
--- Assumes nothing.
+--
 use borrow.Author.Needs.{needs}
 use Rattle.teleport.proofs.read.Statement.{statement}
 use Rattle.teleport.proofs.read.Tie as tie

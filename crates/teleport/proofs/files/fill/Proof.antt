@@ -1,5 +1,5 @@
 -- `files::fill` meets its contract. The loop's invariant: the bytes read so far lie within the buffer, which keeps its length.
--- The measure is the room that is left; a read that brings nothing ends the loop. Assumes nothing.
+-- The measure is the room that is left; a read that brings nothing ends the loop.
 use Prim.Native.Nat.{_≤_, _-_}
 use mathlib.Core.Path.{_≡_}
 use lib.ListN.{length}
