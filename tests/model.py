@@ -1,8 +1,12 @@
 """A model of the service Read, to be read beside the paper.
 
 read() gives the answer (code, text, place, other) and fills the table.
-value() gives the JSON value that a well-formed text spells.
+tree() gives the values of a well-formed text with their places, value() the
+JSON value that it spells.
 """
+
+from collections import namedtuple
+from functools import lru_cache
 
 # Limits of a document; those of a schema are 16384 bytes and 24 brackets.
 DOCUMENT_LIMIT, DOCUMENT_DEPTH = 65536, 32
@@ -26,6 +30,13 @@ SHORT_ESCAPES = {
 }
 
 
+# A value with its first byte, a member with the opening quote of its name.
+# Content: None, the spelling of a number, the characters of a string, the
+# elements of an array, the members of an object.
+Node = namedtuple("Node", "kind place content")
+Member = namedtuple("Member", "name place value")
+
+
 class Refusal(Exception):
     """The first offence from left to right: codes 2 to 7 and the place."""
 
@@ -39,14 +50,23 @@ def read(text, table, limit=DOCUMENT_LIMIT, depth=DOCUMENT_DEPTH, which=1):
     """Order: length (1), then the first offence (2 to 7), then room (8)."""
     if len(text) > limit:
         return (TOO_LONG, which, limit, 0)
-    try:
-        rows = Reader(text, depth).read_text()[0]
-    except Refusal as refusal:
-        return (refusal.code, which, refusal.place, 0)
+    offence, rows, _ = read_whole(text, depth)
+    if offence:
+        code, place = offence
+        return (code, which, place, 0)
     if len(rows) > len(table) // ROW_WORDS:
         return (NO_ROOM, which, 0, len(rows))
     write_rows(rows, table)
     return (READ, 0, 0, len(rows))
+
+
+@lru_cache(maxsize=8)
+def read_whole(text, depth):
+    """The first offence or None, the rows and the tree, whatever the table."""
+    try:
+        return (None, *Reader(text, depth).read_text())
+    except Refusal as refusal:
+        return ((refusal.code, refusal.place), None, None)
 
 
 def write_rows(rows, table):
@@ -54,6 +74,14 @@ def write_rows(rows, table):
     for number, row in enumerate(rows):
         start = ROW_WORDS * number
         table[start:start + ROW_WORDS] = row
+
+
+def tree(text, depth=DOCUMENT_DEPTH):
+    """The value of a well-formed text as a Node; Refusal when it is not."""
+    offence, _, found = read_whole(text, depth)
+    if offence:
+        raise Refusal(*offence)
+    return found
 
 
 def value(text, depth=DOCUMENT_DEPTH):
@@ -67,7 +95,27 @@ def value(text, depth=DOCUMENT_DEPTH):
 
     A text that is not well-formed raises Refusal.
     """
-    return Reader(text, depth).read_text()[1]
+    return without_places(tree(text, depth))
+
+
+def without_places(node):
+    """Space, places and escapes are no part of a JSON value."""
+    if node.kind == NULL:
+        return ("null", None)
+    if node.kind in (FALSE, TRUE):
+        return ("boolean", node.kind == TRUE)
+    if node.kind in (INTEGER, OTHER_NUMBER):
+        return ("number", node.content)
+    if node.kind == STRING:
+        return ("string", scalar_values(node.content))
+    if node.kind == ARRAY:
+        return ("array", [without_places(element) for element in node.content])
+    return ("object", [(scalar_values(member.name), without_places(member.value))
+                       for member in node.content])
+
+
+def scalar_values(characters):
+    return [ord(character) for character in characters]
 
 
 class Reader:
@@ -130,17 +178,22 @@ class Reader:
         row[3] = children
         row[4] = len(self.rows) - number
 
+    def node(self, number, content=None):
+        """The value of a row, for the tree."""
+        kind, place = self.rows[number][:2]
+        return Node(kind, place, content)
+
     # Values.
 
     def read_value(self):
         """The first byte of a value decides what is read."""
         byte = self.byte()
         if byte == ord("n"):
-            return self.read_literal(b"null", NULL, ("null", None))
+            return self.read_literal(b"null", NULL)
         if byte == ord("f"):
-            return self.read_literal(b"false", FALSE, ("boolean", False))
+            return self.read_literal(b"false", FALSE)
         if byte == ord("t"):
-            return self.read_literal(b"true", TRUE, ("boolean", True))
+            return self.read_literal(b"true", TRUE)
         if byte == ord("-") or byte in DIGITS:
             return self.read_number()
         if byte == ord('"'):
@@ -151,12 +204,12 @@ class Reader:
             return self.read_object()
         self.refuse(NOT_ALLOWED)
 
-    def read_literal(self, word, kind, found):
+    def read_literal(self, word, kind):
         row = self.open_row(kind)
         for byte in word:
             self.take([byte])
         self.close_row(row)
-        return found
+        return self.node(row)
 
     def read_number(self):
         """Kind 4 without fraction or exponent, else kind 5."""
@@ -174,7 +227,7 @@ class Reader:
                 self.place += 1
             self.read_digits()
         self.close_row(row)
-        return ("number", bytes(self.text[first:self.place]))
+        return self.node(row, bytes(self.text[first:self.place]))
 
     def read_integer_part(self):
         """Perhaps a minus, then 0 alone or digits that begin with 1 to 9."""
@@ -216,7 +269,7 @@ class Reader:
                 elements.append(self.read_element())
         self.close_bracket()
         self.close_row(row, len(elements))
-        return ("array", elements)
+        return self.node(row, elements)
 
     def read_element(self):
         """A value and the space behind it."""
@@ -238,44 +291,45 @@ class Reader:
                 members.append(self.read_member(names))
         self.close_bracket()
         self.close_row(row, len(members))
-        return ("object", members)
+        return self.node(row, members)
 
     def read_member(self, names):
         """A name, a colon, a value, and the space behind each."""
+        place = self.place
         name = self.read_name(names)
         self.skip_space()
         self.take(b":")
         self.skip_space()
-        return (name, self.read_element())
+        return Member(name, place, self.read_element())
 
     # Strings and names. Their bytes include the quotes.
 
     def read_string(self):
         row = self.open_row(STRING)
         self.take(b'"')
-        scalars = self.read_characters()
+        characters = self.read_characters()
         self.take(b'"')
         self.close_row(row)
-        return ("string", scalars)
+        return self.node(row, characters)
 
     def read_name(self, names):
         """A name that the object already has is 6, at its closing quote."""
         row = self.open_row(NAME)
         self.take(b'"')
-        scalars = self.read_characters()
-        if tuple(scalars) in names:
+        characters = self.read_characters()
+        if characters in names:
             self.refuse(NAME_TWICE)
-        names.add(tuple(scalars))
+        names.add(characters)
         self.take(b'"')
         self.close_row(row)
-        return scalars
+        return characters
 
     def read_characters(self):
-        """The scalar values up to the closing quote, which is not passed."""
+        """The characters up to the closing quote, which is not passed."""
         scalars = []
         while self.byte() != ord('"'):
             scalars.append(self.read_character())
-        return scalars
+        return "".join(map(chr, scalars))
 
     def read_character(self):
         byte = self.byte()

@@ -8,102 +8,23 @@
 --self puts the model in the place of the library.
 """
 
-import argparse
-import ctypes
 import itertools
-import os
 import random
 import sys
-from array import array
 
 import edge_cases
 import generate
+import harness
 import model
 
 DEFAULT_COUNT = 160000
-DEFAULT_SEED = 1
-
-GUARD = 8       # words, or bytes of text, before and behind each buffer
-ANSWER = 4      # words of an answer
 LONG = 4096     # longer texts are given fewer tables
 
-# Behind a text stand bytes that a reader running on would take for more of it.
-TEXT_GUARDS = b'"]}0 ,:a'
-
-READ_FUNCTION = ctypes.CFUNCTYPE(
-    None, ctypes.c_void_p, ctypes.c_size_t, ctypes.c_void_p, ctypes.c_size_t,
-    ctypes.c_void_p)
-
-
-# The function under test.
-
-def load(path):
-    function = ctypes.CDLL(os.path.abspath(path)).teleport_read
-    function.restype = READ_FUNCTION._restype_
-    function.argtypes = READ_FUNCTION._argtypes_
-    return function
-
-
-def model_function():
-    """The model as a function of the library's shape."""
-    def teleport_read(text, text_len, table, table_len, answer):
-        words = array("I", ctypes.string_at(table, 4 * table_len)).tolist()
-        numbers = model.read(ctypes.string_at(text, text_len), words)
-        ctypes.memmove(table, array("I", words).tobytes(), 4 * table_len)
-        ctypes.memmove(answer, array("I", numbers).tobytes(), 4 * ANSWER)
-    return READ_FUNCTION(teleport_read)
-
-
-# Buffers with guards.
-
-class Words:
-    """Random words with guard words before and behind."""
-
-    def __init__(self, count, chance):
-        self.count = count
-        self.memory = array("I", chance.randbytes(4 * (count + 2 * GUARD)))
-        self.found = self.memory[:]
-
-    def address(self):
-        return self.memory.buffer_info()[0] + 4 * GUARD
-
-    def words(self):
-        return self.memory[GUARD:GUARD + self.count].tolist()
-
-    def expect(self, words):
-        """Whether the words are these and the guards as found."""
-        wanted = self.found[:]
-        wanted[GUARD:GUARD + self.count] = array("I", words)
-        return self.memory == wanted
-
-    def guards_touched(self):
-        behind = GUARD + self.count
-        return (self.memory[:GUARD] != self.found[:GUARD]
-                or self.memory[behind:] != self.found[behind:])
-
-
-class Text:
-    """The bytes of a text with other bytes before and behind."""
-
-    def __init__(self, text, chance):
-        before = bytes(chance.choices(TEXT_GUARDS, k=GUARD))
-        behind = bytes(chance.choices(TEXT_GUARDS, k=GUARD))
-        self.memory = array("B", before + text + behind)
-        self.found = self.memory[:]
-
-    def address(self):
-        return self.memory.buffer_info()[0] + GUARD
-
-    def unchanged(self):
-        return self.memory == self.found
-
-
-# Comparing.
 
 def table_lengths(text, chance):
     """Numbers of words of the tables that a text is given."""
-    code, _, _, rows = model.read(text, [])
-    if code != model.NO_ROOM:
+    rows = harness.rows_needed(text)
+    if rows is None:
         return [chance.choice([0, 1, 4, 5, 9, 5 * len(text) + 5])]
     exact = model.ROW_WORDS * rows
     lengths = [exact, exact - model.ROW_WORDS]
@@ -113,58 +34,16 @@ def table_lengths(text, chance):
     return lengths
 
 
-def compare(function, text, length, chance):
-    """Runs the function and the model on one table; gives the differences."""
-    buffer, table, answer = Text(text, chance), Words(length, chance), Words(ANSWER, chance)
-    wanted_words = table.words()
-    wanted = model.read(text, wanted_words)
-    function(buffer.address(), len(text), table.address(), length, answer.address())
-    differences = []
-    if not answer.expect(wanted):
-        differences.append("answer")
-    if not table.expect(wanted_words):
-        differences.append("table")
-    if not buffer.unchanged():
-        differences.append("text buffer")
-    if differences:
-        report(text, length, wanted, wanted_words, table, answer, differences)
-    return differences
-
-
-def report(text, length, wanted, wanted_words, table, answer, differences):
-    print("text:   ", text.hex())
-    print("table:  ", length, "words")
-    print("model:  ", *wanted)
-    print("library:", *answer.words())
-    print("differs:", ", ".join(differences))
-    for name, words in [("answer", answer), ("table", table)]:
-        if words.guards_touched():
-            print("guard words of the", name, "changed")
-    for number, (want, got) in enumerate(zip(wanted_words, table.words())):
-        if want != got:
-            print("table word", number, "model", want, "library", got)
-            break
-
-
-def compare_text(function, text, chance):
-    """Compares one text with every table it is given."""
-    return not any(compare(function, text, length, chance)
-                   for length in table_lengths(text, chance))
-
-
 def run_library(function, count, seed):
     """The cases of the papers, then generated texts; stops at a difference."""
     chance = random.Random(seed)
     cases = [text for text, _ in edge_cases.CASES + edge_cases.ROW_CASES]
-    compared = itertools.chain(cases, itertools.islice(generate.texts(seed), count))
-    passed = failed = 0
-    for text in compared:
-        if not compare_text(function, text, chance):
-            failed = 1
-            break
-        passed += 1
-    print(passed + failed, "texts compared")
-    return passed, failed
+    texts = itertools.chain(cases, itertools.islice(generate.texts(seed), count))
+
+    def holds(text):
+        return all(harness.compare(function, model.read, [text], [length], chance)
+                   for length in table_lengths(text, chance))
+    return harness.count_in_turn((texts, holds))
 
 
 # The cases of the papers against the model.
@@ -202,37 +81,18 @@ def room_is(text, length, answer):
 
 
 def run_model():
-    passed = failed = 0
-    for text, right in model_results():
-        passed += right
-        failed += not right
-        if not right:
-            print("text:", text[:200].hex(), "model:", *model.read(text, [0] * 1000))
-    return passed, failed
-
-
-def arguments():
-    parser = argparse.ArgumentParser(description="Holds a library's Read to the model.")
-    parser.add_argument("library", nargs="?", help="path of the shared library")
-    parser.add_argument("--self", action="store_true", help="the model against itself")
-    parser.add_argument("--model", action="store_true", help="only the model's own cases")
-    parser.add_argument("--count", type=int, default=DEFAULT_COUNT, help="generated texts")
-    parser.add_argument("--seed", type=int, default=DEFAULT_SEED)
-    found = parser.parse_args()
-    if not (found.model or found.self or found.library):
-        parser.error("give a library, --self or --model")
-    return found
+    return harness.count_all((text[:200].hex(), right) for text, right in model_results())
 
 
 def main():
-    given = arguments()
+    given = harness.arguments("Holds a library's Read to the model.", DEFAULT_COUNT)
     if given.model:
-        passed, failed = run_model()
+        return harness.finish(*run_model())
+    if given.self:
+        function = harness.model_function(model.read, 1)
     else:
-        function = model_function() if given.self else load(given.library)
-        passed, failed = run_library(function, given.count, given.seed)
-    print(passed, "passed,", failed, "failed")
-    return 1 if failed else 0
+        function = harness.load(given.library, "teleport_read", 1)
+    return harness.finish(*run_library(function, given.count, given.seed))
 
 
 if __name__ == "__main__":

@@ -1,49 +1,43 @@
--- What `subtype` refuses is not so: some JSON value meets the new definition and fails the old one.
+-- What `subtype` refuses is not so: the witness is a JSON value that meets the new definition and fails the old one.
 use Prim.Native.Nat.{ℕ}
 use mathlib.Core.Path.{_≡_, refl, sym, _∙_}
 use mathlib.Core.Logic.{inl, inr}
 use mathlib.Core.Bool.{Bool, true, false, _&&_, false≢true, true≢false, Bool·beq, and-eq-true-iff}
 use mathlib.Core.List.{List, _∷_}
 use lib.ListN.{replicate}
-use Rattle.model.specs.Text.{text}
-use Rattle.model.specs.Value.{Value, string, array, object, Values, vnil, vcons, Members, mnil, mcons, Among, Under, hasName}
+use Rattle.model.specs.Value.{Value, null, array, object, Values, vnil, Members, mnil, mcons, Among, Under, hasName}
 use Rattle.model.specs.Value.{IsJson}
 use Rattle.model.specs.Definition.{Named, JSON, Schema, Float, Integer, String, Boolean, DateTime, Def, named, array-of, map-of}
-use Rattle.model.specs.Definition.{object-of, Fields, fnil, fcons, WellFormed, AreFields}
+use Rattle.model.specs.Definition.{object-of, Fields, fnil, fcons, hasField, WellFormed, AreFields}
 use Rattle.model.specs.Meeting.{IfArray, IfObject, meetsNamed, HasNames, Meets, FieldsMeet}
 use Rattle.model.specs.Subtype.{is, subtypeNamed, ofObjects, other, under, requires, requiresAll, subtype, subtypeFields}
-use Rattle.model.proofs.Basics.{and-false, clash}
-use Rattle.model.proofs.Samples.{plain, plain-meets, plain-json, sample, sample-meets, sample-json, with-member, without-member}
-use Rattle.model.proofs.Samples.{size, fresh, fresh-text, fresh-under, other-formed, under-formed}
+use Rattle.model.specs.Witness.{plain, apart, sample, kept, ownRun, fresh, others, beyondNamed, witness, witnessFields}
+use Rattle.model.proofs.Basics.{and-false, clash, false-of, both, by-test}
+use Rattle.model.proofs.Samples.{plain-meets, plain-json, kept-name, sample-meets, sample-json, member-json, member-meets}
+use Rattle.model.proofs.Samples.{fresh-text, fresh-under, other-formed, under-formed}
 
--- a JSON value that meets a and fails b
+-- v is a JSON value that meets a and fails b
+abbrev pub Works : Def → Def → Value → Type 0
+Works a b v = IsJson v × Meets a v × (¬ Meets b v)
+
 abbrev pub Witness : Def → Def → Type 0
-Witness a b = (v : Value) × IsJson v × Meets a v × (Meets b v → ⊥)
+Witness a b = (v : Value) × IsJson v × Meets a v × (¬ Meets b v)
 
--- ---- the named types: a value of each that meets only what takes the whole type
-abbrev apart : Named → Value
-apart JSON = plain JSON
-apart Schema = object (mcons (text "Array") (string (text "JSON")) mnil)
-apart Float = plain Float
-apart Integer = plain Integer
-apart String = plain String
-apart Boolean = plain Boolean
-apart DateTime = plain DateTime
-
+-- ---- the named types
 abbrev every : (Named → Bool) → Bool
 every p = p JSON && (p Schema && (p Float && (p Integer && (p String && (p Boolean && p DateTime)))))
 
-both : (x y : Bool) → x && y ≡ true → (x ≡ true) × (y ≡ true)
-both x y = and-eq-true-iff x y .0
+parts : (x y : Bool) → x && y ≡ true → (x ≡ true) × (y ≡ true)
+parts x y = and-eq-true-iff x y .0
 
 every-at : (p : Named → Bool) → every p ≡ true → (t : Named) → p t ≡ true
-every-at p h JSON = both (p JSON) _ h .0
-every-at p h Schema = both (p Schema) _ (both (p JSON) _ h .1) .0
-every-at p h Float = both (p Float) _ (both (p Schema) _ (both (p JSON) _ h .1) .1) .0
-every-at p h Integer = both (p Integer) _ (both (p Float) _ (both (p Schema) _ (both (p JSON) _ h .1) .1) .1) .0
-every-at p h String = both (p String) _ (both (p Integer) _ (both (p Float) _ (both (p Schema) _ (both (p JSON) _ h .1) .1) .1) .1) .0
-every-at p h Boolean = both (p Boolean) _ (both (p String) _ (both (p Integer) _ (both (p Float) _ (both (p Schema) _ (both (p JSON) _ h .1) .1) .1) .1) .1) .0
-every-at p h DateTime = (both (p Boolean) _ (both (p String) _ (both (p Integer) _ (both (p Float) _ (both (p Schema) _ (both (p JSON) _ h .1) .1) .1) .1) .1) .1)
+every-at p h JSON = parts (p JSON) _ h .0
+every-at p h Schema = parts (p Schema) _ (parts (p JSON) _ h .1) .0
+every-at p h Float = parts (p Float) _ (parts (p Schema) _ (parts (p JSON) _ h .1) .1) .0
+every-at p h Integer = parts (p Integer) _ (parts (p Float) _ (parts (p Schema) _ (parts (p JSON) _ h .1) .1) .1) .0
+every-at p h String = parts (p String) _ (parts (p Integer) _ (parts (p Float) _ (parts (p Schema) _ (parts (p JSON) _ h .1) .1) .1) .1) .0
+every-at p h Boolean = parts (p Boolean) _ (parts (p String) _ (parts (p Integer) _ (parts (p Float) _ (parts (p Schema) _ (parts (p JSON) _ h .1) .1) .1) .1) .1) .0
+every-at p h DateTime = (parts (p Boolean) _ (parts (p String) _ (parts (p Integer) _ (parts (p Float) _ (parts (p Schema) _ (parts (p JSON) _ h .1) .1) .1) .1) .1) .1)
 
 beq-eq : (x y : Bool) → Bool·beq x y ≡ true → x ≡ y
 beq-eq true true e = refl
@@ -70,8 +64,17 @@ array-fails String e h = false≢true h
 array-fails Boolean e h = false≢true h
 array-fails DateTime e h = false≢true h
 
+empty-fails : (t : Named) → is t JSON ≡ false → meetsNamed t (object mnil) ≡ true → ⊥
+empty-fails JSON e h = true≢false e
+empty-fails Schema e h = false≢true h
+empty-fails Float e h = false≢true h
+empty-fails Integer e h = false≢true h
+empty-fails String e h = false≢true h
+empty-fails Boolean e h = false≢true h
+empty-fails DateTime e h = false≢true h
+
 -- an object whose first name is none of Array, Map and Object
-object-fails : (t : Named) → is t JSON ≡ false → (n : List ℕ) (w : Value) (ms : Members) → meetsNamed t (object (mcons (97 ∷ n) w ms)) ≡ true → ⊥
+object-fails : (t : Named) → is t JSON ≡ false → (n : List ℕ) (w : Value) (ms : Members) → meetsNamed t (object (mcons (0x61 ∷ n) w ms)) ≡ true → ⊥
 object-fails JSON e n w ms h = true≢false e
 object-fails Schema e n w mnil h = false≢true h
 object-fails Schema e n w (mcons m v ms) h = false≢true h
@@ -100,22 +103,16 @@ apart-self Boolean = refl
 apart-self DateTime = refl
 
 -- ---- the old definition is named
--- an object that meets a and whose first member has a name that a does not name
-open-object : (a : Def) → ofObjects a ≡ true → WellFormed a → (w : Value) → IsJson w → Meets (other a) w
-    → (ms : Members) × IsJson (object (mcons (fresh a) w ms)) × Meets a (object (mcons (fresh a) w ms))
-open-object a e k w j h = with-member a e k (fresh a) (fresh-text a) w j (rw (fresh-under a) h)
-
-objects-to-named : (a : Def) → ofObjects a ≡ true → WellFormed a → (t : Named) → is t JSON ≡ false → Witness a (named t)
-objects-to-named a e k t h =
-    let w : Value = sample (other a) in
-    let o = open-object a e k w (sample-json (other a) (other-formed a k)) (sample-meets (other a) (other-formed a k)) in
-    (object (mcons (fresh a) w (o .0)), o .1, o .2, object-fails t h (replicate (size a) 97) w (o .0))
-
-to-named : (t : Named) (a : Def) → WellFormed a → subtype a (named t) ≡ false → Witness a (named t)
-to-named t (named s) k h = (apart s, apart-json s, apart-self s, λ m. clash (subtypeNamed s t) (sym (apart-meets s t) ∙ m) h)
-to-named t (array-of p) k h = (array vnil, tt, λ w i. absurd i, array-fails t h)
-to-named t (map-of p) k h = objects-to-named (map-of p) refl k t h
-to-named t (object-of r o) k h = objects-to-named (object-of r o) refl k t h
+beyond-named : (t : Named) (a : Def) → WellFormed a → subtype a (named t) ≡ false → Works a (named t) (beyondNamed a)
+beyond-named t (named s) k h = (apart-json s, apart-self s, λ m. clash (subtypeNamed s t) (sym (apart-meets s t) ∙ m) h)
+beyond-named t (array-of p) k h = (tt, λ w i. absurd i, array-fails t h)
+beyond-named t (map-of p) k h = (tt, λ n w u. absurd u, empty-fails t h)
+beyond-named t (object-of r o) k h =
+    let a : Def = object-of r o in (
+      member-json a k (fresh a) (fresh-text a) null tt,
+      member-meets a refl k (fresh a) null (rw (fresh-under a) refl),
+      object-fails t h (replicate (ownRun a) 0x61) null (others a (fresh a)),
+    )
 
 -- ---- the old definition is of arrays
 plain-no-array : (P : Values → Type 0) (t : Named) → IfArray P (plain t) → ⊥
@@ -127,13 +124,14 @@ plain-no-array P String h = h
 plain-no-array P Boolean h = h
 plain-no-array P DateTime h = h
 
-to-array : (q : Def) → ((p : Def) → WellFormed p → subtype p q ≡ false → Witness p q) → (a : Def) → WellFormed a → subtype a (array-of q) ≡ false → Witness a (array-of q)
-to-array q ih (named s) k h = (plain s, plain-json s, plain-meets s, plain-no-array (λ vs. (w : Value) → Among w vs → Meets q w) s)
+to-array : (q : Def) → ((p : Def) → WellFormed p → subtype p q ≡ false → Works p q (witness p q))
+    → (a : Def) → WellFormed a → subtype a (array-of q) ≡ false → Works a (array-of q) (witness a (array-of q))
+to-array q ih (named s) k h = (plain-json s, plain-meets s, plain-no-array (λ vs. (w : Value) → Among w vs → Meets q w) s)
 to-array q ih (array-of p) k h =
     let x = ih p k h in
-    (array (vcons (x .0) vnil), (x .1, tt), λ w i. elim i [ inl e ↦ rw e (x .2) | inr z ↦ absurd z ], λ m. x .3 (m (x .0) (inl refl)))
-to-array q ih (map-of p) k h = (sample (map-of p), sample-json (map-of p) k, sample-meets (map-of p) k, λ m. m)
-to-array q ih (object-of r o) k h = (sample (object-of r o), sample-json (object-of r o) k, sample-meets (object-of r o) k, λ m. m)
+    ((x .0, tt), λ w i. elim i [ inl e ↦ rw e (x .1) | inr z ↦ absurd z ], λ m. x .2 (m (witness p q) (inl refl)))
+to-array q ih (map-of p) k h = (tt, λ n w u. absurd u, λ m. m)
+to-array q ih (object-of r o) k h = (sample-json (object-of r o) k, sample-meets (object-of r o) k, λ m. m)
 
 -- ---- the old definition is of objects
 plain-no-object : (P : Members → Type 0) (t : Named) → IfObject P (plain t) → ⊥
@@ -145,52 +143,77 @@ plain-no-object P String h = h
 plain-no-object P Boolean h = h
 plain-no-object P DateTime h = h
 
-no-object : (a : Def) → WellFormed a → ofObjects a ≡ false → (P : Members → Type 0) → (v : Value) × IsJson v × Meets a v × (IfObject P v → ⊥)
-no-object (named t) k e P = (plain t, plain-json t, plain-meets t, plain-no-object P t)
-no-object (array-of d) k e P = (array vnil, tt, λ w i. absurd i, λ m. m)
-no-object (map-of d) k e P = absurd (true≢false e)
-no-object (object-of r o) k e P = absurd (true≢false e)
+no-object : (a : Def) → ofObjects a ≡ false → (P : Members → Type 0) → IfObject P (sample a) → ⊥
+no-object (named t) e P m = plain-no-object P t m
+no-object (array-of d) e P m = m
+no-object (map-of d) e P m = true≢false e
+no-object (object-of r o) e P m = true≢false e
 
--- a name of the fields that a does not ask for
-missing : (a : Def) (fs : Fields) → requiresAll a fs ≡ false → (n : List ℕ) × (requires a n ≡ false) × ((ms : Members) → HasNames fs ms → hasName n ms ≡ true)
-missing a fnil h = absurd (true≢false h)
-missing a (fcons n d fs) h = elim (and-false (requires a n) (requiresAll a fs) h) [
-  | inl e ↦ (n, e, λ ms m. m .0)
-  | inr e ↦ let x = missing a fs (e .1) in (x .0, x .1, λ ms m. x .2 ms (m .1))
+-- members with only names that a asks for lack one of the fields
+lacks : (a : Def) (ms : Members) → ((n : List ℕ) → requires a n ≡ false → hasName n ms ≡ false)
+    → (fs : Fields) → requiresAll a fs ≡ false → HasNames fs ms → ⊥
+lacks a ms f fnil h m = true≢false h
+lacks a ms f (fcons n d fs) h m = elim (and-false (requires a n) (requiresAll a fs) h) [
+  | inl e ↦ clash (hasName n ms) (m .0) (f n e)
+  | inr e ↦ lacks a ms f fs (e .1) (m .1)
 ]
 
-mutual
-  pub complete : (b a : Def) → WellFormed b → WellFormed a → subtype a b ≡ false → Witness a b
-  complete (named t) a l k h = to-named t a k h
-  complete (array-of q) a l k h = to-array q (λ p j. complete q p l j) a k h
-  complete (map-of q) a l k h = elim (and-false (ofObjects a) (subtype (other a) q) h) [
-    | inl e ↦ no-object a k e (λ ms. (n : List ℕ) (w : Value) → Under n w ms → Meets q w)
-    | inr e ↦
-        let x = complete q (other a) l (other-formed a k) (e .1) in
-        let o = open-object a (e .0) k (x .0) (x .1) (x .2) in
-        (object (mcons (fresh a) (x .0) (o .0)), o .1, o .2, λ m. x .3 (m (fresh a) (x .0) (inl (refl, refl))))
-  ]
-  complete (object-of r o) a l k h = elim (and-false (ofObjects a) (requiresAll a r && (subtypeFields a r && subtypeFields a o)) h) [
-    | inl e ↦ no-object a k e (λ ms. HasNames r ms × FieldsMeet r ms × FieldsMeet o ms)
-    | inr e ↦ elim (and-false (requiresAll a r) (subtypeFields a r && subtypeFields a o) (e .1)) [
-      | inl f ↦
-          let x = missing a r f in
-          let y = without-member a (e .0) k (x .0) (x .1) in
-          (object (y .0), y .1, y .2, λ m. clash (hasName (x .0) (y .0)) (x .2 (y .0) (m .0)) (y .3))
-      | inr f ↦ elim (and-false (subtypeFields a r) (subtypeFields a o) (f .1)) [
-        | inl g ↦ let x = complete-fields r a (l .0) k (e .0) g in (object (x .0), x .1, x .2, λ m. x .3 (m .1))
-        | inr g ↦ let x = complete-fields o a (l .1) k (e .0) (g .1) in (object (x .0), x .1, x .2, λ m. x .3 (m .2))
-      ]
-    ]
-  ]
+sample-lacks : (a : Def) → ofObjects a ≡ true → (fs gs : Fields) → requiresAll a fs ≡ false → Meets (object-of fs gs) (sample a) → ⊥
+sample-lacks (named t) e fs gs h m = false≢true e
+sample-lacks (array-of d) e fs gs h m = m
+sample-lacks (map-of d) e fs gs h m = lacks (map-of d) mnil (λ n z. refl) fs h (m .0)
+sample-lacks (object-of r o) e fs gs h m =
+    lacks (object-of r o) (kept (λ x. true) r)
+    (λ n z. false-of (hasName n (kept (λ x. true) r)) (hasField n r) (kept-name (λ x. true) r n) z) fs h (m .0)
 
-  complete-fields : (fs : Fields) (a : Def) → AreFields fs → WellFormed a → ofObjects a ≡ true → subtypeFields a fs ≡ false
-      → (ms : Members) × IsJson (object ms) × Meets a (object ms) × (FieldsMeet fs ms → ⊥)
-  complete-fields fnil a l k e h = absurd (true≢false h)
-  complete-fields (fcons n q fs) a l k e h = elim (and-false (subtype (under a n) q) (subtypeFields a fs) h) [
-    | inl f ↦
-        let x = complete q (under a n) (l .2) (under-formed a k n) f in
-        let o = with-member a e k n (l .0) (x .0) (x .1) (x .2) in
-        (mcons n (x .0) (o .0), o .1, o .2, λ m. x .3 (m .0 (x .0) (inl (refl, refl))))
-    | inr f ↦ let x = complete-fields fs a (l .3) k e (f .1) in (x .0, x .1, x .2, λ m. x .3 (m .1))
-  ]
+-- fields that do not fail leave the value as it is
+no-field : (fs : Fields) (a : Def) → subtypeFields a fs ≡ true → (v : Value) → witnessFields a fs v ≡ v
+no-field fnil a h v = refl
+no-field (fcons n q fs) a h v =
+    let k = and-eq-true-iff (subtype (under a n) q) (subtypeFields a fs) .0 h in
+    rw (k .0) (no-field fs a (k .1) v)
+
+mutual
+  pub witness-works : (b a : Def) → WellFormed b → WellFormed a → subtype a b ≡ false → IsJson (witness a b) × Meets a (witness a b) × (¬ Meets b (witness a b))
+  witness-works (named t) a l k h = beyond-named t a k h
+  witness-works (array-of q) a l k h = to-array q (λ p j. witness-works q p l j) a k h
+  witness-works (map-of q) a l k h = both (Works a (map-of q)) (ofObjects a)
+      (λ e.
+      let x = witness-works q (other a) l (other-formed a k) (rw e at h) in (
+        member-json a k (fresh a) (fresh-text a) (witness (other a) q) (x .0),
+        member-meets a e k (fresh a) (witness (other a) q) (rw (fresh-under a) (x .1)),
+        λ m. x .2 (m (fresh a) (witness (other a) q) (inl (refl, refl))),
+      ))
+      (λ e. (sample-json a k, sample-meets a k, no-object a e (λ ms. (n : List ℕ) (w : Value) → Under n w ms → Meets q w)))
+  witness-works (object-of r o) a l k h = both (Works a (object-of r o)) (ofObjects a && requiresAll a r)
+      (λ e.
+      let g = and-eq-true-iff (ofObjects a) (requiresAll a r) .0 e in
+      by-test (subtypeFields a r)
+      (λ z. rw (no-field r a z (witnessFields a o (sample a)))
+      (fields-work o a (l .1) k (g .0) (rw (g .0, g .1, z) at h) (sample a) (object-of r o) (λ ms m. m .2)))
+      (λ z. fields-work r a (l .0) k (g .0) z (witnessFields a o (sample a)) (object-of r o) (λ ms m. m .1)))
+      (λ e. (
+        sample-json a k,
+        sample-meets a k,
+        λ m. elim (and-false (ofObjects a) (requiresAll a r) e) [
+          | inl z ↦ no-object a z (λ ms. HasNames r ms × FieldsMeet r ms × FieldsMeet o ms) m
+          | inr z ↦ sample-lacks a (z .0) r o (z .1) m
+        ],
+      ))
+
+  -- the value fails b, which asks for what the fields do
+  fields-work : (fs : Fields) (a : Def) → AreFields fs → WellFormed a → ofObjects a ≡ true → subtypeFields a fs ≡ false → (v : Value)
+      → (b : Def) → ((ms : Members) → Meets b (object ms) → FieldsMeet fs ms) → Works a b (witnessFields a fs v)
+  fields-work fnil a l k e h v b f = absurd (true≢false h)
+  fields-work (fcons n q fs) a l k e h v b f = both (Works a b) (subtype (under a n) q)
+      (λ z. fields-work fs a (l .3) k e (rw z at h) v b (λ ms m. f ms m .1))
+      (λ z.
+      let w : Value = witness (under a n) q in
+      let x = witness-works q (under a n) (l .2) (under-formed a k n) z in (
+        member-json a k n (l .0) w (x .0),
+        member-meets a e k n w (x .1),
+        λ m. x .2 (f (mcons n w (others a n)) m .0 w (inl (refl, refl))),
+      ))
+
+pub complete : (b a : Def) → WellFormed b → WellFormed a → subtype a b ≡ false → Witness a b
+complete b a l k h = let x = witness-works b a l k h in (witness a b, x .0, x .1, x .2)

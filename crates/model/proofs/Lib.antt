@@ -9,3 +9,4 @@ pub mod Examples
 pub mod DateExamples
 pub mod Theorem
 pub mod Starred
+pub mod WitnessExamples

@@ -1,30 +1,20 @@
--- Values that meet a definition, and objects that meet it with a given member or without one.
-use Prim.Native.Nat.{ℕ, zero, suc, _+_, _≤_, _<_}
+-- The values of specs/Witness.antt that meet a definition: its sample, and objects with a given member.
+use Prim.Native.Nat.{ℕ, zero, suc, _≤_}
 use native.Mathlib.Omega.{arith}
-use mathlib.Core.Path.{_≡_, refl, sym, _∙_, subst}
+use mathlib.Core.Path.{_≡_, refl, sym, ap, _∙_, subst}
 use mathlib.Core.Logic.{inl, inr}
 use mathlib.Core.Bool.{Bool, true, false, not, cond, _||_, false≢true, and-eq-true-iff}
-use mathlib.Core.List.{List, [], _∷_}
-use lib.ListN.{length, replicate, length-replicate}
+use mathlib.Core.List.{List, []}
+use lib.ListN.{replicate}
 use Rattle.model.specs.Text.{text, same, isText}
-use Rattle.model.specs.Value.{Value, null, boolean, number, string, array, object, vnil, Members, mnil, mcons, Under, hasName}
-use Rattle.model.specs.Value.{IsJson, AreMembers}
+use Rattle.model.specs.Value.{Value, object, Members, mnil, mcons, Under, hasName, IsJson, AreMembers}
 use Rattle.model.specs.Definition.{Named, JSON, Schema, Float, Integer, String, Boolean, DateTime, Def, named, array-of, map-of}
 use Rattle.model.specs.Definition.{object-of, Fields, fnil, fcons, hasField, disjoint, WellFormed, AreFields}
 use Rattle.model.specs.Meeting.{meetsNamed, HasNames, Meets, FieldsMeet}
-use Rattle.model.specs.Subtype.{fieldOr, ofObjects, other, under, requires}
+use Rattle.model.specs.Subtype.{fieldOr, ofObjects, other, under}
+use Rattle.model.specs.Witness.{plain, sample, kept, run, longestRun, ownRun, fresh, withMember}
 use Rattle.model.proofs.Basics.{same-eq, same-of, same-refl, or-true, or-false, or-left, or-right, not-true, clash, false-of}
 use Rattle.model.proofs.Basics.{both, by-test}
-
--- a value of each named type that is neither array nor object
-abbrev pub plain : Named → Value
-plain JSON = null
-plain Schema = string (text "JSON")
-plain Float = number (text "0.5")
-plain Integer = number (text "0")
-plain String = string []
-plain Boolean = boolean true
-plain DateTime = string (text "2000-01-01T00:00:00Z")
 
 pub plain-meets : (t : Named) → meetsNamed t (plain t) ≡ true
 plain-meets JSON = refl
@@ -43,18 +33,6 @@ plain-json Integer = record { minus = []; int = text "0"; fraction = []; exponen
 plain-json String = refl
 plain-json Boolean = tt
 plain-json DateTime = refl
-
--- a value of every definition: an object has the required members alone, of which `kept p` has those whose names pass p
-abbrev mutual
-  pub sample : Def → Value
-  sample (named t) = plain t
-  sample (array-of d) = array vnil
-  sample (map-of d) = object mnil
-  sample (object-of r o) = object (kept (λ m. true) r)
-
-  pub kept : (List ℕ → Bool) → Fields → Members
-  kept p fnil = mnil
-  kept p (fcons m d fs) = cond (p m) (mcons m (sample d) (kept p fs)) (kept p fs)
 
 pub under-name : (n : List ℕ) (w : Value) (ms : Members) → Under n w ms → hasName n ms ≡ true
 under-name n w mnil u = absurd u
@@ -193,81 +171,60 @@ mutual
       (k .0, false-of (hasName m (kept p fs)) (hasField m fs) (kept-name p fs m) (k .1), sample-json d (k .2), kept-json fs (k .3) p))
       (λ q. kept-json fs (k .3) p)
 
--- ---- objects with a given member, and without one
--- an object that meets a, and in which w stands under n first
-pub with-member : (a : Def) → ofObjects a ≡ true → WellFormed a → (n : List ℕ) → isText n ≡ true → (w : Value) → IsJson w → Meets (under a n) w
-    → (ms : Members) × IsJson (object (mcons n w ms)) × Meets a (object (mcons n w ms))
-with-member (named t) e k n nt w j h = absurd (false≢true e)
-with-member (array-of d) e k n nt w j h = absurd (false≢true e)
-with-member (map-of d) e k n nt w j h = (mnil, (nt, refl, j, tt), λ m v u. elim u [ inl q ↦ rw (q .1) h | inr q ↦ absurd q ])
-with-member (object-of r o) e k n nt w j h = (
-  kept (λ m. not (same n m)) r,
-  (nt, kept-not (λ m. not (same n m)) r n (rw (same-refl n) refl), j, kept-json r (k .0) (λ m. not (same n m))),
-  object-meets r o k (mcons n w (kept (λ m. not (same n m)) r))
-      (λ m q. by-test (same m n)
-      (λ z. or-left (same m n) (hasName m (kept (λ m. not (same n m)) r)) z)
-      (λ z. or-right (same m n) (hasName m (kept (λ m. not (same n m)) r))
-      (kept-has (λ m. not (same n m)) r m (rw (false-of (same n m) (same m n) (λ x. same-of m n (sym (same-eq n m x))) z) refl) q)))
-      (λ m v u. elim u [
-        | inl q ↦ rw (q .0, q .1) h
-        | inr q ↦ kept-under r (k .0) (λ m. not (same n m)) (fieldOr (named JSON) m o) m v q
-      ]),
-)
+-- ---- objects with a given member
+pub member-json : (a : Def) → WellFormed a → (n : List ℕ) → isText n ≡ true → (w : Value) → IsJson w → IsJson (withMember a n w)
+member-json (named t) k n nt w j = (nt, refl, j, tt)
+member-json (array-of d) k n nt w j = (nt, refl, j, tt)
+member-json (map-of d) k n nt w j = (nt, refl, j, tt)
+member-json (object-of r o) k n nt w j =
+    (nt, kept-not (λ m. not (same n m)) r n (rw (same-refl n) refl), j, kept-json r (k .0) (λ m. not (same n m)))
 
--- an object that meets a and does not have the name n, which a does not ask for
-pub without-member : (a : Def) → ofObjects a ≡ true → WellFormed a → (n : List ℕ) → requires a n ≡ false
-    → (ms : Members) × IsJson (object ms) × Meets a (object ms) × (hasName n ms ≡ false)
-without-member (named t) e k n h = absurd (false≢true e)
-without-member (array-of d) e k n h = absurd (false≢true e)
-without-member (map-of d) e k n h = (mnil, tt, λ m v u. absurd u, refl)
-without-member (object-of r o) e k n h = (
-  kept (λ m. true) r,
-  kept-json r (k .0) (λ m. true),
-  sample-meets (object-of r o) k,
-  false-of (hasName n (kept (λ m. true) r)) (hasField n r) (kept-name (λ m. true) r n) h,
-)
+pub member-meets : (a : Def) → ofObjects a ≡ true → WellFormed a → (n : List ℕ) (w : Value) → Meets (under a n) w → Meets a (withMember a n w)
+member-meets (named t) e k n w h = absurd (false≢true e)
+member-meets (array-of d) e k n w h = absurd (false≢true e)
+member-meets (map-of d) e k n w h = λ m v u. elim u [ inl q ↦ rw (q .1) h | inr q ↦ absurd q ]
+member-meets (object-of r o) e k n w h =
+    object-meets r o k (mcons n w (kept (λ m. not (same n m)) r))
+    (λ m q. by-test (same m n)
+    (λ z. or-left (same m n) (hasName m (kept (λ m. not (same n m)) r)) z)
+    (λ z. or-right (same m n) (hasName m (kept (λ m. not (same n m)) r))
+    (kept-has (λ m. not (same n m)) r m (rw (false-of (same n m) (same m n) (λ x. same-of m n (sym (same-eq n m x))) z) refl) q)))
+    (λ m v u. elim u [
+      | inl q ↦ rw (q .0, q .1) h
+      | inr q ↦ kept-under r (k .0) (λ m. not (same n m)) (fieldOr (named JSON) m o) m v q
+    ])
 
--- ---- a name that a definition does not name: longer than all of its own
-total : Fields → ℕ
-total fnil = 0
-total (fcons n d fs) = length n + total fs
+-- ---- the fresh name begins with more 'a's than any name of the definition
+run-replicate : (k : ℕ) → run (replicate k 0x61) ≡ k
+run-replicate zero = refl
+run-replicate (suc k) = ap suc (run-replicate k)
 
-short : (n : List ℕ) (fs : Fields) → hasField n fs ≡ true → length n ≤ total fs
-unfolding total
+short : (n : List ℕ) (fs : Fields) → hasField n fs ≡ true → run n ≤ longestRun fs
 short n fnil h = absurd (false≢true h)
 short n (fcons m d fs) h = elim (or-true (same n m) (hasField n fs) h) [
   | inl k ↦ rw (same-eq n m k) (omega arith)
   | inr k ↦ omega (arith, short n fs k)
 ]
 
-longer : (n : List ℕ) (fs : Fields) → total fs < length n → hasField n fs ≡ false
-longer n fs h = by-test (hasField n fs) (λ k. absurd (omega (arith, short n fs k))) (λ k. k)
-
-pub size : Def → ℕ
-size (named t) = 0
-size (array-of d) = 0
-size (map-of d) = 0
-size (object-of r o) = total r + total o
-
-abbrev pub fresh : Def → List ℕ
-fresh a = 97 ∷ replicate (size a) 97
-
-isText-replicate : (k : ℕ) → isText (replicate k 97) ≡ true
-isText-replicate zero = refl
-isText-replicate (suc k) = isText-replicate k
-
-pub fresh-text : (a : Def) → isText (fresh a) ≡ true
-fresh-text a = isText-replicate (size a)
+fresh-absent : (a : Def) (fs : Fields) → longestRun fs ≤ ownRun a → hasField (fresh a) fs ≡ false
+fresh-absent a fs h =
+    by-test (hasField (fresh a) fs) (λ k. absurd (omega (arith, short (fresh a) fs k, run-replicate (ownRun a)))) (λ k. k)
 
 pub fresh-under : (a : Def) → under a (fresh a) ≡ other a
-unfolding size
 fresh-under (named t) = refl
 fresh-under (array-of d) = refl
 fresh-under (map-of d) = refl
 fresh-under (object-of r o) =
     let n : List ℕ = fresh (object-of r o) in
-    fieldOr-absent (fieldOr (named JSON) n o) n r (longer n r (omega (arith, length-replicate {A = ℕ} (total r + total o) 97)))
-    ∙ fieldOr-absent (named JSON) n o (longer n o (omega (arith, length-replicate {A = ℕ} (total r + total o) 97)))
+    fieldOr-absent (fieldOr (named JSON) n o) n r (fresh-absent (object-of r o) r (omega arith))
+    ∙ fieldOr-absent (named JSON) n o (fresh-absent (object-of r o) o (omega arith))
+
+isText-replicate : (k : ℕ) → isText (replicate k 0x61) ≡ true
+isText-replicate zero = refl
+isText-replicate (suc k) = isText-replicate k
+
+pub fresh-text : (a : Def) → isText (fresh a) ≡ true
+fresh-text a = isText-replicate (ownRun a)
 
 pub other-formed : (a : Def) → WellFormed a → WellFormed (other a)
 other-formed (named t) k = tt

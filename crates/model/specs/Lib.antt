@@ -4,3 +4,4 @@ pub mod Definition
 pub mod Date
 pub mod Meeting
 pub mod Subtype
+pub mod Witness

@@ -2,5 +2,7 @@
 pub mod Located
 pub mod Mismatch
 pub mod Check
+pub mod Compare
 pub mod Names
 pub mod Walking
+pub mod Comparing

@@ -6,7 +6,9 @@ use mathlib.Core.Option.{Option, none, some}
 use mathlib.Core.List.{List}
 use Rattle.model.specs.Text.{text, same}
 use Rattle.model.specs.Definition.{Named}
-use Rattle.model.specs.Definition.{JSON as json, Schema as schema, Float as float, Integer as integer, String as string, Boolean as boolean, DateTime as dateTime}
+use Rattle.model.specs.Subtype.{is, subtypeNamed}
+use Rattle.model.specs.Definition.{JSON as json, Schema as schema, Float as float, Integer as integer, String as string}
+use Rattle.model.specs.Definition.{Boolean as boolean, DateTime as dateTime}
 use Rattle.schema.specs.declared.names.TypeName.{TypeName}
 use Rattle.schema.specs.declared.names.TypeName.the-variants.{Json, Schema, Float, Integer, Text, Boolean, DateTime, Unknown}
 use Rattle.schema.specs.declared.names.Generic.{Generic}
@@ -39,3 +41,24 @@ takesKind Text k = eqb k 6
 takesKind Boolean k = eqb k 2 || eqb k 3
 takesKind DateTime k = false
 takesKind Unknown k = false
+
+-- the type that a name stands for, of an unknown one none
+abbrev pub typeOf : TypeName → Option Named
+typeOf Json = some json
+typeOf Schema = some schema
+typeOf Float = some float
+typeOf Integer = some integer
+typeOf Text = some string
+typeOf Boolean = some boolean
+typeOf DateTime = some dateTime
+typeOf Unknown = none
+
+-- where the new one names no type, only JSON takes all its values
+abbrev pub bothNamed : Option Named → Option Named → Bool
+bothNamed s none = false
+bothNamed none (some t) = is t json
+bothNamed (some s) (some t) = subtypeNamed s t
+
+-- the first type is carried to the second; as the first, an unknown one stands for any definition that is no type name
+unfoldable pub subtypeName : TypeName → TypeName → Bool
+subtypeName s t = bothNamed (typeOf s) (typeOf t)

@@ -1,0 +1,687 @@
+-- The walk over two definitions meets its contracts. The measure is twice the rows of the old definition, with one or two more by the order of the calls; fields
+-- that are absent, at row 0, count none. The loop's invariant is `InFields`; `Carries` has a law for each way out. Below each member's name stands what is known at its places.
+use Prim.Native.Nat.{ℕ, _+_, _*_, _≤_, _<_}
+use mathlib.Core.Path.{_≡_, refl}
+use mathlib.Core.Bool.{true}
+use native.Mathlib.Omega.{arith}
+use borrow.Author.Needs.{needs}
+use borrow.Author.Tests.{not-true, not-false}
+use lib.ListN.{length}
+use mir.Syntax.{w64}
+use mir.Val.{Fits}
+use Rattle.model.specs.Text.{text}
+use Rattle.reader.specs.Holding.{word}
+use Rattle.schema.specs.Walking.{ObjectRow, Finds}
+use Rattle.schema.specs.Comparing.{DefinedRow, Pairing, PairingTo, FieldPairing, OfObjectsRow}
+use Rattle.schema.specs.declared.names.Generic.{Generic}
+use Rattle.schema.specs.declared.names.Generic.the-variants.{Array, Map, Object, Other}
+use Rattle.schema.proofs.Words.{plain}
+use Rattle.schema.proofs.Trees.{in-table, as-row, part-object, quotes-read}
+use Rattle.schema.proofs.Defines.{partRows, part-rows}
+use Rattle.schema.proofs.Carries.{by-name, array-less, array-pair, array-array, array-other}
+use Rattle.schema.proofs.Carries.{map-less, map-old, map-pair, map-map, map-object, map-other}
+use Rattle.schema.proofs.Carries.{object-row, object-other, object-less, required-pair, optional-pair, object-fails, object-ends}
+use Rattle.schema.proofs.Carries.{InFields, fields-none, fields-start, fields-end, field-less, field-pair, field-fails, field-next}
+use Rattle.schema.proofs.Carries.{FieldSought, found-pair, field-carried, field-missing, field-json}
+use borrow.Fn.Kinds.{In}
+use borrow.Fn.PlainCycle.{Measures, is, falls, and}
+use Rattle.schema.proofs.comparing.carried.Reads as carried
+use Rattle.schema.proofs.comparing.carried.Kinds as carried-kinds
+use Rattle.schema.proofs.comparing.+carried+carried_field+carried_fields+carried_to_array+carried_to_map+carried_to_object.Lts-carried as carried-lts
+use Rattle.schema.proofs.comparing.carried_field.Reads as carried-field
+use Rattle.schema.proofs.comparing.carried_field.Kinds as carried-field-kinds
+use Rattle.schema.proofs.comparing.+carried+carried_field+carried_fields+carried_to_array+carried_to_map+carried_to_object.Lts-carried_field as carried-field-lts
+use Rattle.schema.proofs.comparing.carried_fields.Reads as carried-fields
+use Rattle.schema.proofs.comparing.carried_fields.Kinds as carried-fields-kinds
+use Rattle.schema.proofs.comparing.+carried+carried_field+carried_fields+carried_to_array+carried_to_map+carried_to_object.Lts-carried_fields as carried-fields-lts
+use Rattle.schema.proofs.comparing.carried_to_array.Reads as carried-to-array
+use Rattle.schema.proofs.comparing.carried_to_array.Kinds as carried-to-array-kinds
+use Rattle.schema.proofs.comparing.+carried+carried_field+carried_fields+carried_to_array+carried_to_map+carried_to_object.Lts-carried_to_array as carried-to-array-lts
+use Rattle.schema.proofs.comparing.carried_to_map.Reads as carried-to-map
+use Rattle.schema.proofs.comparing.carried_to_map.Kinds as carried-to-map-kinds
+use Rattle.schema.proofs.comparing.+carried+carried_field+carried_fields+carried_to_array+carried_to_map+carried_to_object.Lts-carried_to_map as carried-to-map-lts
+use Rattle.schema.proofs.comparing.carried_to_object.Reads as carried-to-object
+use Rattle.schema.proofs.comparing.carried_to_object.Kinds as carried-to-object-kinds
+use Rattle.schema.proofs.comparing.+carried+carried_field+carried_fields+carried_to_array+carried_to_map+carried_to_object.Lts-carried_to_object as carried-to-object-lts
+use Rattle.schema.proofs.comparing.carried_name.Reads as carried-name-reads
+use Rattle.schema.proofs.comparing.find_under.Reads as find-under-reads
+use Rattle.schema.proofs.comparing.generic_at.Reads as generic-at-reads
+use Rattle.schema.proofs.comparing.is_json.Reads as is-json-reads
+use Rattle.schema.proofs.comparing.of_objects.Reads as of-objects-reads
+use Rattle.schema.proofs.comparing.type_at.Reads as type-at-reads
+use Rattle.schema.proofs.rows.find.Reads as find-reads
+use Rattle.schema.proofs.rows.row_at.Reads as row-at-reads
+use Rattle.schema.proofs.comparing.+carried+carried_field+carried_fields+carried_to_array+carried_to_map+carried_to_object.{statement}
+use Rattle.schema.proofs.comparing.+carried+carried_field+carried_fields+carried_to_array+carried_to_map+carried_to_object.Tie.{close}
+
+abbrev μ-carried : Measures 4 carried-kinds.ps ℕ
+μ-carried κs a = 2 * word (a .1 .1 .1 .0 .now) (a .1 .1 .1 .1 .1 .0) 4 + 1
+
+abbrev μ-carried-field : Measures 4 carried-field-kinds.ps ℕ
+μ-carried-field κs a = 2 * word (a .1 .1 .1 .0 .now) (a .1 .1 .1 .1 .1 .0 + 1) 4 + 2
+
+abbrev μ-carried-fields : Measures 4 carried-fields-kinds.ps ℕ
+μ-carried-fields κs a = 2 * partRows (a .1 .1 .1 .0 .now) (a .1 .1 .1 .1 .1 .0) + 1
+
+abbrev μ-carried-to-array : Measures 4 carried-to-array-kinds.ps ℕ
+μ-carried-to-array κs a = 2 * word (a .1 .1 .1 .0 .now) (a .1 .1 .1 .1 .1 .0) 4
+
+abbrev μ-carried-to-map : Measures 4 carried-to-map-kinds.ps ℕ
+μ-carried-to-map κs a = 2 * word (a .1 .1 .1 .0 .now) (a .1 .1 .1 .1 .1 .0) 4
+
+abbrev μ-carried-to-object : Measures 4 carried-to-object-kinds.ps ℕ
+μ-carried-to-object κs a = 2 * word (a .1 .1 .1 .0 .now) (a .1 .1 .1 .1 .1 .0) 4
+
+abbrev carried-at : ℕ → In 4 carried-kinds.ps
+carried-at t = and 4 carried-kinds.ps (is 4 carried-kinds.ps μ-carried t) carried.Pre
+
+abbrev carried-below : ℕ → In 4 carried-kinds.ps
+carried-below t = and 4 carried-kinds.ps (falls 4 carried-kinds.ps _<_ μ-carried t) carried.Pre
+
+abbrev carried-field-at : ℕ → In 4 carried-field-kinds.ps
+carried-field-at t = and 4 carried-field-kinds.ps (is 4 carried-field-kinds.ps μ-carried-field t) carried-field.Pre
+
+abbrev carried-field-below : ℕ → In 4 carried-field-kinds.ps
+carried-field-below t = and 4 carried-field-kinds.ps (falls 4 carried-field-kinds.ps _<_ μ-carried-field t) carried-field.Pre
+
+abbrev carried-fields-at : ℕ → In 4 carried-fields-kinds.ps
+carried-fields-at t = and 4 carried-fields-kinds.ps (is 4 carried-fields-kinds.ps μ-carried-fields t) carried-fields.Pre
+
+abbrev carried-fields-below : ℕ → In 4 carried-fields-kinds.ps
+carried-fields-below t = and 4 carried-fields-kinds.ps (falls 4 carried-fields-kinds.ps _<_ μ-carried-fields t) carried-fields.Pre
+
+abbrev carried-to-array-at : ℕ → In 4 carried-to-array-kinds.ps
+carried-to-array-at t = and 4 carried-to-array-kinds.ps (is 4 carried-to-array-kinds.ps μ-carried-to-array t) carried-to-array.Pre
+
+abbrev carried-to-array-below : ℕ → In 4 carried-to-array-kinds.ps
+carried-to-array-below t = and 4 carried-to-array-kinds.ps (falls 4 carried-to-array-kinds.ps _<_ μ-carried-to-array t) carried-to-array.Pre
+
+abbrev carried-to-map-at : ℕ → In 4 carried-to-map-kinds.ps
+carried-to-map-at t = and 4 carried-to-map-kinds.ps (is 4 carried-to-map-kinds.ps μ-carried-to-map t) carried-to-map.Pre
+
+abbrev carried-to-map-below : ℕ → In 4 carried-to-map-kinds.ps
+carried-to-map-below t = and 4 carried-to-map-kinds.ps (falls 4 carried-to-map-kinds.ps _<_ μ-carried-to-map t) carried-to-map.Pre
+
+abbrev carried-to-object-at : ℕ → In 4 carried-to-object-kinds.ps
+carried-to-object-at t = and 4 carried-to-object-kinds.ps (is 4 carried-to-object-kinds.ps μ-carried-to-object t) carried-to-object.Pre
+
+abbrev carried-to-object-below : ℕ → In 4 carried-to-object-kinds.ps
+carried-to-object-below t = and 4 carried-to-object-kinds.ps (falls 4 carried-to-object-kinds.ps _<_ μ-carried-to-object t) carried-to-object.Pre
+
+-- ---- carried
+
+abbrev carried-claims : ℕ → carried-lts.Claims
+carried-claims t = (
+  generic-at-reads.Asked,
+  generic-at-reads.Learnt,
+  carried-to-array-below t,
+  carried-to-array.Post,
+  carried-to-map-below t,
+  carried-to-map.Post,
+  carried-to-object-below t,
+  carried-to-object.Post,
+  type-at-reads.Asked,
+  type-at-reads.Learnt,
+  carried-name-reads.Asked,
+  carried-name-reads.Learnt,
+)
+
+module _ (t : ℕ) where
+  -- the entry, from where the old definition's generic type was read
+  abbrev carried-entry : carried-lts.After-generic-at (carried-claims t) (carried-at t) carried.Post
+      → carried-lts.Start (carried-claims t) (carried-at t) carried.Post
+  carried-entry c = c .before .before .before .before .before
+
+  -- the old definition is of that type
+  carried-to : (c : carried-lts.After-generic-at (carried-claims t) (carried-at t) carried.Post) (g : Generic) → c .generic-at .result ≡ g →
+      let a = carried-entry c .args in
+      PairingTo (a .new .now) (a .old .now) (a .rows1 .now) (a .rows2 .now) (a .a) (a .b) g
+  carried-to c g e = record { given = carried-entry c .pre .1; is = rw e at (c .generic-at .ensures) }
+
+  carried-less : (c : carried-lts.After-generic-at (carried-claims t) (carried-at t) carried.Post) →
+      let a = carried-entry c .args in
+      2 * word (a .rows2 .now) (a .b) 4 < t
+  carried-less c = omega (arith, carried-entry c .pre .0)
+
+  carried-generic-at-requires : carried-lts.Need-generic-at-requires (carried-claims t) (carried-at t) carried.Post
+  carried-generic-at-requires c κs = c .before .before .before .before .pre .1 .old
+
+  carried-enum-told : carried-lts.Need-enum-told (carried-claims t) (carried-at t) carried.Post
+  carried-enum-told c = search needs
+
+  carried-carried-to-array-requires : carried-lts.Need-carried-to-array-requires (carried-claims t) (carried-at t) carried.Post
+  carried-carried-to-array-requires c κs = let r = c .before .before in (carried-less r, carried-to r Array (c .enum-told .given .1))
+
+  carried-enum-told-2 : carried-lts.Need-enum-told-2 (carried-claims t) (carried-at t) carried.Post
+  carried-enum-told-2 c = search needs
+
+  carried-carried-to-map-requires : carried-lts.Need-carried-to-map-requires (carried-claims t) (carried-at t) carried.Post
+  carried-carried-to-map-requires c κs = let r = c .before .before in (carried-less r, carried-to r Map (c .enum-told2 .given .1))
+
+  carried-enum-told-3 : carried-lts.Need-enum-told-3 (carried-claims t) (carried-at t) carried.Post
+  carried-enum-told-3 c = search needs
+
+  carried-carried-to-object-requires : carried-lts.Need-carried-to-object-requires (carried-claims t) (carried-at t) carried.Post
+  carried-carried-to-object-requires c κs = let r = c .before .before in (carried-less r, carried-to r Object (c .enum-told3 .given .1))
+
+  carried-enum-told-4 : carried-lts.Need-enum-told-4 (carried-claims t) (carried-at t) carried.Post
+  carried-enum-told-4 c = search needs
+
+  carried-type-at-requires : carried-lts.Need-type-at-requires (carried-claims t) (carried-at t) carried.Post
+  carried-type-at-requires c κs = carried-entry (c .before .before) .pre .1 .new
+
+  carried-type-at-requires-2 : carried-lts.Need-type-at-requires-2 (carried-claims t) (carried-at t) carried.Post
+  carried-type-at-requires-2 c κs = carried-entry (c .before .before .before) .pre .1 .old
+
+  carried-carried-name-requires : carried-lts.Need-carried-name-requires (carried-claims t) (carried-at t) carried.Post
+  carried-carried-name-requires c κs = tt
+
+  carried-returns : carried-lts.Need-returns (carried-claims t) (carried-at t) carried.Post
+  carried-returns c = c .carried-to-array .ensures
+
+  carried-returns-2 : carried-lts.Need-returns-2 (carried-claims t) (carried-at t) carried.Post
+  carried-returns-2 c = c .carried-to-map .ensures
+
+  carried-returns-3 : carried-lts.Need-returns-3 (carried-claims t) (carried-at t) carried.Post
+  carried-returns-3 c = c .carried-to-object .ensures
+
+  carried-returns-4 : carried-lts.Need-returns-4 (carried-claims t) (carried-at t) carried.Post
+  carried-returns-4 c =
+      let k = c .before .before .before in
+      by-name (carried-to (k .before .before) Other (k .enum-told4 .given .1) .is) (c .before .before .type-at .ensures) (c .before .type-at2 .ensures) (c .carried-name .ensures)
+
+-- ---- carried_field
+
+abbrev carried-field-claims : ℕ → carried-field-lts.Claims
+carried-field-claims t = (
+  row-at-reads.Asked,
+  row-at-reads.Learnt,
+  find-under-reads.Asked,
+  find-under-reads.Learnt,
+  carried-below t,
+  carried.Post,
+  is-json-reads.Asked,
+  is-json-reads.Learnt,
+)
+
+module _ (t : ℕ) where
+  -- the quotes of the name
+  field-quotes : (c : carried-field-lts.After-row-at (carried-field-claims t) (carried-field-at t) carried-field.Post) →
+      let x = c .row-at .result in
+      (x .first + 2 ≤ x .end) × (x .end ≤ length (c .before .before .before .before .before .args .old .now))
+  field-quotes c = quotes-read (c .row-at .ensures) (c .before .before .before .before .before .pre .1 .quoted)
+
+  -- what was found for it; the entry from there
+  abbrev field-entry : carried-field-lts.After-find-under (carried-field-claims t) (carried-field-at t) carried-field.Post
+      → carried-field-lts.Start (carried-field-claims t) (carried-field-at t) carried-field.Post
+  field-entry c = c .before .before .before .before .before .before .before .before .before
+
+  field-sought : (c : carried-field-lts.After-find-under (carried-field-claims t) (carried-field-at t) carried-field.Post) →
+      let a = field-entry c .args in
+      FieldSought (a .new .now) (a .old .now) (a .rows1 .now) (a .rows2 .now) (a .a) (a .row) (a .required) (c .before .before .before .before .row-at .result) (c .find-under .result)
+  field-sought c = record { reads = c .before .before .before .before .row-at .ensures; finds = c .find-under .ensures }
+
+  -- the row of its definition
+  field-fits : (c : carried-field-lts.After-find-under (carried-field-claims t) (carried-field-at t) carried-field.Post) → Fits w64 (field-entry c .args .row + 1)
+  field-fits c = omega (arith, in-table (field-entry c .pre .1 .old .row) .here, field-entry c .good)
+
+  carried-field-row-at-requires : carried-field-lts.Need-row-at-requires (carried-field-claims t) (carried-field-at t) carried-field.Post
+  carried-field-row-at-requires c κs = c .before .before .before .before .pre .1 .name
+
+  carried-field-cast-from : carried-field-lts.Need-cast-from (carried-field-claims t) (carried-field-at t) carried-field.Post
+  carried-field-cast-from c = search needs
+
+  carried-field-add-from : carried-field-lts.Need-add-from (carried-field-claims t) (carried-field-at t) carried-field.Post
+  carried-field-add-from c = omega (arith, field-quotes (c .before), c .before .before .before .before .before .before .good)
+
+  carried-field-cast-to : carried-field-lts.Need-cast-to (carried-field-claims t) (carried-field-at t) carried-field.Post
+  carried-field-cast-to c = search needs
+
+  carried-field-sub-to : carried-field-lts.Need-sub-to (carried-field-claims t) (carried-field-at t) carried-field.Post
+  carried-field-sub-to c = omega (arith, field-quotes (c .before .before))
+
+  carried-field-sub-find-under : carried-field-lts.Need-sub-find-under (carried-field-claims t) (carried-field-at t) carried-field.Post
+  carried-field-sub-find-under c = omega (arith, field-quotes (c .before .before))
+
+  carried-field-part-find-under-start : carried-field-lts.Need-part-find-under-start (carried-field-claims t) (carried-field-at t) carried-field.Post
+  carried-field-part-find-under-start c = omega (arith, field-quotes (c .before .before))
+
+  carried-field-part-find-under-end : carried-field-lts.Need-part-find-under-end (carried-field-claims t) (carried-field-at t) carried-field.Post
+  carried-field-part-find-under-end c = omega (arith, field-quotes (c .before .before))
+
+  carried-field-find-under-requires : carried-field-lts.Need-find-under-requires (carried-field-claims t) (carried-field-at t) carried-field.Post
+  carried-field-find-under-requires c κs = c .before .before .before .before .before .before .before .before .pre .1 .new
+
+  carried-field-add-carried : carried-field-lts.Need-add-carried (carried-field-claims t) (carried-field-at t) carried-field.Post
+  carried-field-add-carried c = field-fits (c .before)
+
+  carried-field-carried-requires : carried-field-lts.Need-carried-requires (carried-field-claims t) (carried-field-at t) carried-field.Post
+  carried-field-carried-requires c κs =
+      let s = field-entry (c .before) in
+      (omega (arith, s .pre .0), found-pair (field-sought (c .before)) (c .if1 .taken) (s .pre .1))
+
+  carried-field-returns : carried-field-lts.Need-returns (carried-field-claims t) (carried-field-at t) carried-field.Post
+  carried-field-returns c = field-carried (field-sought (c .before .before)) (c .before .if1 .taken) (c .carried .ensures)
+
+  carried-field-returns-2 : carried-field-lts.Need-returns-2 (carried-field-claims t) (carried-field-at t) carried-field.Post
+  carried-field-returns-2 c = field-missing (field-sought (c .before .before)) (c .before .if1 .left) (c .if2 .taken)
+
+  carried-field-add-is-json : carried-field-lts.Need-add-is-json (carried-field-claims t) (carried-field-at t) carried-field.Post
+  carried-field-add-is-json c = field-fits (c .before .before)
+
+  carried-field-is-json-requires : carried-field-lts.Need-is-json-requires (carried-field-claims t) (carried-field-at t) carried-field.Post
+  carried-field-is-json-requires c κs = field-entry (c .before .before) .pre .1 .old
+
+  carried-field-returns-3 : carried-field-lts.Need-returns-3 (carried-field-claims t) (carried-field-at t) carried-field.Post
+  carried-field-returns-3 c = field-json (field-sought (c .before .before .before)) (c .before .before .if1 .left) (c .before .if2 .left) (c .is-json .ensures)
+
+-- ---- carried_fields
+
+abbrev carried-fields-claims : ℕ → carried-fields-lts.Claims
+carried-fields-claims t = (row-at-reads.Asked, row-at-reads.Learnt, carried-field-below t, carried-field.Post)
+
+abbrev carried-fields-Inv-loop : carried-fields-lts.InvT-loop
+carried-fields-Inv-loop new old rows1 rows2 a fields required left₀ row₀ left row = InFields new old rows1 rows2 a fields required row left
+
+abbrev carried-fields-μ-loop : carried-fields-lts.MeasureT-loop
+carried-fields-μ-loop new old rows1 rows2 a fields required left₀ row₀ left row = left
+
+module _ (t : ℕ) where
+  -- fields that are there; the entry from there
+  abbrev fields-entry : carried-fields-lts.Else1 (carried-fields-claims t) (carried-fields-at t) carried-fields.Post carried-fields-Inv-loop carried-fields-μ-loop
+      → carried-fields-lts.Start (carried-fields-claims t) (carried-fields-at t) carried-fields.Post carried-fields-Inv-loop carried-fields-μ-loop
+  fields-entry c = c .before .before .before .before .before
+
+  fields-object : (c : carried-fields-lts.Else1 (carried-fields-claims t) (carried-fields-at t) carried-fields.Post carried-fields-Inv-loop carried-fields-μ-loop) →
+      let a = fields-entry c .args in
+      ObjectRow (a .old .now) (a .rows2 .now) (a .fields)
+  fields-object c = part-object (fields-entry c .pre .1 .old .part) (omega arith)
+
+  -- one of them
+  fields-one : (c : carried-fields-lts.In-loop (carried-fields-claims t) (carried-fields-at t) carried-fields.Post carried-fields-Inv-loop carried-fields-μ-loop) →
+      let a = fields-entry (c .before .before .before) .args in
+      FieldPairing (a .new .now) (a .old .now) (a .rows1 .now) (a .rows2 .now) (a .a) (c .before .loop .row)
+  fields-one c = field-pair (c .before .loop .inv) (c .loop-test .taken)
+
+  fields-less : (c : carried-fields-lts.In-loop (carried-fields-claims t) (carried-fields-at t) carried-fields.Post carried-fields-Inv-loop carried-fields-μ-loop) →
+      2 * word (fields-entry (c .before .before .before) .args .rows2 .now) (c .before .loop .row + 1) 4 + 2 < t
+  fields-less c =
+      let s = fields-entry (c .before .before .before) in
+      let l : 0 < s .args .fields = omega arith in
+      omega (arith, field-less (c .before .loop .inv) (c .loop-test .taken), part-rows (s .args .rows2 .now) (s .args .fields) l, s .pre .0)
+
+  carried-fields-returns : carried-fields-lts.Need-returns (carried-fields-claims t) (carried-fields-at t) carried-fields.Post carried-fields-Inv-loop carried-fields-μ-loop
+  carried-fields-returns c = fields-none (c .if1 .taken)
+
+  carried-fields-row-at-requires : carried-fields-lts.Need-row-at-requires (carried-fields-claims t) (carried-fields-at t) carried-fields.Post carried-fields-Inv-loop carried-fields-μ-loop
+  carried-fields-row-at-requires c κs = in-table (as-row (fields-object c))
+
+  carried-fields-add-row : carried-fields-lts.Need-add-row (carried-fields-claims t) (carried-fields-at t) carried-fields.Post carried-fields-Inv-loop carried-fields-μ-loop
+  carried-fields-add-row c = omega (arith, in-table (as-row (fields-object (c .before))) .here, fields-entry (c .before) .good)
+
+  carried-fields-loop-holds : carried-fields-lts.Need-loop-holds (carried-fields-claims t) (carried-fields-at t) carried-fields.Post carried-fields-Inv-loop carried-fields-μ-loop
+  carried-fields-loop-holds c = fields-start (fields-entry (c .before) .pre .1) (omega arith) (c .row-at .ensures .children)
+
+  carried-fields-carried-field-requires : carried-fields-lts.Need-carried-field-requires (carried-fields-claims t) (carried-fields-at t) carried-fields.Post carried-fields-Inv-loop carried-fields-μ-loop
+  carried-fields-carried-field-requires c κs = (fields-less c, fields-one c)
+
+  carried-fields-returns-2 : carried-fields-lts.Need-returns-2 (carried-fields-claims t) (carried-fields-at t) carried-fields.Post carried-fields-Inv-loop carried-fields-μ-loop
+  carried-fields-returns-2 c =
+      let p = c .before .before in
+      field-fails (p .before .loop .inv) (p .loop-test .taken) (c .before .carried-field .ensures) (not-true _ (c .if2 .taken))
+
+  carried-fields-add-row-at : carried-fields-lts.Need-add-row-at (carried-fields-claims t) (carried-fields-at t) carried-fields.Post carried-fields-Inv-loop carried-fields-μ-loop
+  carried-fields-add-row-at c = omega (arith, in-table (fields-one (c .before .before) .old .row) .here, fields-entry (c .before .before .before .before .before) .good)
+
+  carried-fields-row-at-requires-2 : carried-fields-lts.Need-row-at-requires-2 (carried-fields-claims t) (carried-fields-at t) carried-fields.Post carried-fields-Inv-loop carried-fields-μ-loop
+  carried-fields-row-at-requires-2 c κs = in-table (fields-one (c .before .before) .old .row)
+
+  carried-fields-sub-left : carried-fields-lts.Need-sub-left (carried-fields-claims t) (carried-fields-at t) carried-fields.Post carried-fields-Inv-loop carried-fields-μ-loop
+  carried-fields-sub-left c = omega arith
+
+  carried-fields-loop-less : carried-fields-lts.Need-loop-less (carried-fields-claims t) (carried-fields-at t) carried-fields.Post carried-fields-Inv-loop carried-fields-μ-loop
+  carried-fields-loop-less c = omega arith
+
+  carried-fields-loop-again : carried-fields-lts.Need-loop-again (carried-fields-claims t) (carried-fields-at t) carried-fields.Post carried-fields-Inv-loop carried-fields-μ-loop
+  carried-fields-loop-again c =
+      let p = c .before .before .before in
+      field-next (p .before .loop .inv) (p .loop-test .taken) (c .before .before .carried-field .ensures) (not-false _ (c .before .if2 .left)) (c .row-at2 .ensures)
+
+  carried-fields-returns-3 : carried-fields-lts.Need-returns-3 (carried-fields-claims t) (carried-fields-at t) carried-fields.Post carried-fields-Inv-loop carried-fields-μ-loop
+  carried-fields-returns-3 c = fields-end (c .before .loop .inv) (c .loop-test .left)
+
+-- ---- carried_to_array
+
+abbrev carried-to-array-claims : ℕ → carried-to-array-lts.Claims
+carried-to-array-claims t = (generic-at-reads.Asked, generic-at-reads.Learnt, carried-below t, carried.Post)
+
+module _ (t : ℕ) where
+  -- the entry, from where the new definition's generic type was read
+  abbrev array-entry : carried-to-array-lts.After-generic-at (carried-to-array-claims t) (carried-to-array-at t) carried-to-array.Post
+      → carried-to-array-lts.Start (carried-to-array-claims t) (carried-to-array-at t) carried-to-array.Post
+  array-entry c = c .before .before .before .before .before
+
+  -- an Array to an Array: the definitions inside
+  array-inside : (c : carried-to-array-lts.After-generic-at (carried-to-array-claims t) (carried-to-array-at t) carried-to-array.Post) → c .generic-at .result ≡ Array →
+      let a = array-entry c .args in
+      Pairing (a .new .now) (a .old .now) (a .rows1 .now) (a .rows2 .now) (a .a + 2) (a .b + 2)
+  array-inside c e = let i = array-entry c .pre .1 in array-pair (c .generic-at .ensures) i e (i .given)
+
+  array-falls : (c : carried-to-array-lts.After-generic-at (carried-to-array-claims t) (carried-to-array-at t) carried-to-array.Post) →
+      let a = array-entry c .args in
+      2 * word (a .rows2 .now) (a .b + 2) 4 + 1 < t
+  array-falls c = omega (arith, array-less (c .generic-at .ensures) (array-entry c .pre .1), array-entry c .pre .0)
+
+  carried-to-array-generic-at-requires : carried-to-array-lts.Need-generic-at-requires (carried-to-array-claims t) (carried-to-array-at t) carried-to-array.Post
+  carried-to-array-generic-at-requires c κs = c .before .before .before .before .pre .1 .given .new
+
+  carried-to-array-enum-told : carried-to-array-lts.Need-enum-told (carried-to-array-claims t) (carried-to-array-at t) carried-to-array.Post
+  carried-to-array-enum-told c = search needs
+
+  carried-to-array-add-carried : carried-to-array-lts.Need-add-carried (carried-to-array-claims t) (carried-to-array-at t) carried-to-array.Post
+  carried-to-array-add-carried c =
+      let r = c .before .before in
+      omega (arith, in-table (array-inside r (c .enum-told .given .1) .new .row) .here, array-entry r .good)
+
+  carried-to-array-add-carried-2 : carried-to-array-lts.Need-add-carried-2 (carried-to-array-claims t) (carried-to-array-at t) carried-to-array.Post
+  carried-to-array-add-carried-2 c =
+      let r = c .before .before in
+      omega (arith, in-table (array-inside r (c .enum-told .given .1) .old .row) .here, array-entry r .good)
+
+  carried-to-array-carried-requires : carried-to-array-lts.Need-carried-requires (carried-to-array-claims t) (carried-to-array-at t) carried-to-array.Post
+  carried-to-array-carried-requires c κs = let r = c .before .before in (array-falls r, array-inside r (c .enum-told .given .1))
+
+  carried-to-array-enum-told-2 : carried-to-array-lts.Need-enum-told-2 (carried-to-array-claims t) (carried-to-array-at t) carried-to-array.Post
+  carried-to-array-enum-told-2 c = search needs
+
+  carried-to-array-enum-told-3 : carried-to-array-lts.Need-enum-told-3 (carried-to-array-claims t) (carried-to-array-at t) carried-to-array.Post
+  carried-to-array-enum-told-3 c = search needs
+
+  carried-to-array-enum-told-4 : carried-to-array-lts.Need-enum-told-4 (carried-to-array-claims t) (carried-to-array-at t) carried-to-array.Post
+  carried-to-array-enum-told-4 c = search needs
+
+  carried-to-array-returns : carried-to-array-lts.Need-returns (carried-to-array-claims t) (carried-to-array-at t) carried-to-array.Post
+  carried-to-array-returns c =
+      let r = c .before .before .before in
+      array-array (r .generic-at .ensures) (array-entry r .pre .1) (c .before .enum-told .given .1) (c .carried .ensures)
+
+  carried-to-array-returns-2 : carried-to-array-lts.Need-returns-2 (carried-to-array-claims t) (carried-to-array-at t) carried-to-array.Post
+  carried-to-array-returns-2 c =
+      let r = c .before .before in
+      array-other (r .generic-at .ensures) (array-entry r .pre .1) Map (c .enum-told2 .given .1) refl
+
+  carried-to-array-returns-3 : carried-to-array-lts.Need-returns-3 (carried-to-array-claims t) (carried-to-array-at t) carried-to-array.Post
+  carried-to-array-returns-3 c =
+      let r = c .before .before in
+      array-other (r .generic-at .ensures) (array-entry r .pre .1) Object (c .enum-told3 .given .1) refl
+
+  carried-to-array-returns-4 : carried-to-array-lts.Need-returns-4 (carried-to-array-claims t) (carried-to-array-at t) carried-to-array.Post
+  carried-to-array-returns-4 c =
+      let r = c .before .before in
+      array-other (r .generic-at .ensures) (array-entry r .pre .1) Other (c .enum-told4 .given .1) refl
+
+-- ---- carried_to_map
+
+abbrev carried-to-map-claims : ℕ → carried-to-map-lts.Claims
+carried-to-map-claims t = (generic-at-reads.Asked, generic-at-reads.Learnt, carried-below t, carried.Post, is-json-reads.Asked, is-json-reads.Learnt)
+
+module _ (t : ℕ) where
+  -- the entry, from where the new definition's generic type was read
+  abbrev map-entry : carried-to-map-lts.After-generic-at (carried-to-map-claims t) (carried-to-map-at t) carried-to-map.Post
+      → carried-to-map-lts.Start (carried-to-map-claims t) (carried-to-map-at t) carried-to-map.Post
+  map-entry c = c .before .before .before .before .before
+
+  -- a Map to a Map: the definitions inside
+  map-inside : (c : carried-to-map-lts.After-generic-at (carried-to-map-claims t) (carried-to-map-at t) carried-to-map.Post) → c .generic-at .result ≡ Map →
+      let a = map-entry c .args in
+      Pairing (a .new .now) (a .old .now) (a .rows1 .now) (a .rows2 .now) (a .a + 2) (a .b + 2)
+  map-inside c e = let i = map-entry c .pre .1 in map-pair (c .generic-at .ensures) i e (i .given)
+
+  map-falls : (c : carried-to-map-lts.After-generic-at (carried-to-map-claims t) (carried-to-map-at t) carried-to-map.Post) →
+      let a = map-entry c .args in
+      2 * word (a .rows2 .now) (a .b + 2) 4 + 1 < t
+  map-falls c = omega (arith, map-less (c .generic-at .ensures) (map-entry c .pre .1), map-entry c .pre .0)
+
+  -- the old definition inside
+  map-inner : (c : carried-to-map-lts.After-generic-at (carried-to-map-claims t) (carried-to-map-at t) carried-to-map.Post) →
+      let a = map-entry c .args in
+      DefinedRow (a .old .now) (a .rows2 .now) (a .b + 2)
+  map-inner c = let i = map-entry c .pre .1 in map-old (c .generic-at .ensures) i (i .given .old)
+
+  carried-to-map-generic-at-requires : carried-to-map-lts.Need-generic-at-requires (carried-to-map-claims t) (carried-to-map-at t) carried-to-map.Post
+  carried-to-map-generic-at-requires c κs = c .before .before .before .before .pre .1 .given .new
+
+  carried-to-map-enum-told : carried-to-map-lts.Need-enum-told (carried-to-map-claims t) (carried-to-map-at t) carried-to-map.Post
+  carried-to-map-enum-told c = search needs
+
+  carried-to-map-enum-told-2 : carried-to-map-lts.Need-enum-told-2 (carried-to-map-claims t) (carried-to-map-at t) carried-to-map.Post
+  carried-to-map-enum-told-2 c = search needs
+
+  carried-to-map-add-carried : carried-to-map-lts.Need-add-carried (carried-to-map-claims t) (carried-to-map-at t) carried-to-map.Post
+  carried-to-map-add-carried c =
+      let r = c .before .before in
+      omega (arith, in-table (map-inside r (c .enum-told2 .given .1) .new .row) .here, map-entry r .good)
+
+  carried-to-map-add-carried-2 : carried-to-map-lts.Need-add-carried-2 (carried-to-map-claims t) (carried-to-map-at t) carried-to-map.Post
+  carried-to-map-add-carried-2 c =
+      let r = c .before .before in
+      omega (arith, in-table (map-inside r (c .enum-told2 .given .1) .old .row) .here, map-entry r .good)
+
+  carried-to-map-carried-requires : carried-to-map-lts.Need-carried-requires (carried-to-map-claims t) (carried-to-map-at t) carried-to-map.Post
+  carried-to-map-carried-requires c κs = let r = c .before .before in (map-falls r, map-inside r (c .enum-told2 .given .1))
+
+  carried-to-map-enum-told-3 : carried-to-map-lts.Need-enum-told-3 (carried-to-map-claims t) (carried-to-map-at t) carried-to-map.Post
+  carried-to-map-enum-told-3 c = search needs
+
+  carried-to-map-add-is-json : carried-to-map-lts.Need-add-is-json (carried-to-map-claims t) (carried-to-map-at t) carried-to-map.Post
+  carried-to-map-add-is-json c = let r = c .before .before in omega (arith, in-table (map-inner r .row) .here, map-entry r .good)
+
+  carried-to-map-is-json-requires : carried-to-map-lts.Need-is-json-requires (carried-to-map-claims t) (carried-to-map-at t) carried-to-map.Post
+  carried-to-map-is-json-requires c κs = map-inner (c .before .before)
+
+  carried-to-map-enum-told-4 : carried-to-map-lts.Need-enum-told-4 (carried-to-map-claims t) (carried-to-map-at t) carried-to-map.Post
+  carried-to-map-enum-told-4 c = search needs
+
+  carried-to-map-returns : carried-to-map-lts.Need-returns (carried-to-map-claims t) (carried-to-map-at t) carried-to-map.Post
+  carried-to-map-returns c =
+      let r = c .before .before in
+      map-other (r .generic-at .ensures) (map-entry r .pre .1) Array (c .enum-told .given .1) refl
+
+  carried-to-map-returns-2 : carried-to-map-lts.Need-returns-2 (carried-to-map-claims t) (carried-to-map-at t) carried-to-map.Post
+  carried-to-map-returns-2 c =
+      let r = c .before .before .before in
+      map-map (r .generic-at .ensures) (map-entry r .pre .1) (c .before .enum-told2 .given .1) (c .carried .ensures)
+
+  carried-to-map-returns-3 : carried-to-map-lts.Need-returns-3 (carried-to-map-claims t) (carried-to-map-at t) carried-to-map.Post
+  carried-to-map-returns-3 c =
+      let r = c .before .before .before in
+      map-object (r .generic-at .ensures) (map-entry r .pre .1) (c .before .enum-told3 .given .1) (c .is-json .ensures)
+
+  carried-to-map-returns-4 : carried-to-map-lts.Need-returns-4 (carried-to-map-claims t) (carried-to-map-at t) carried-to-map.Post
+  carried-to-map-returns-4 c =
+      let r = c .before .before in
+      map-other (r .generic-at .ensures) (map-entry r .pre .1) Other (c .enum-told4 .given .1) refl
+
+-- ---- carried_to_object
+
+abbrev carried-to-object-claims : ℕ → carried-to-object-lts.Claims
+carried-to-object-claims t = (of-objects-reads.Asked, of-objects-reads.Learnt, find-reads.Asked, find-reads.Learnt, carried-fields-below t, carried-fields.Post)
+
+module _ (t : ℕ) where
+  -- the body's row
+  object-fits : (c : carried-to-object-lts.Start (carried-to-object-claims t) (carried-to-object-at t) carried-to-object.Post) → Fits w64 (c .args .b + 2)
+  object-fits c = omega (arith, in-table (as-row (object-row (c .pre .1))) .here, c .good)
+
+  -- only objects meet the new definition; the entry from there
+  abbrev object-entry : carried-to-object-lts.Else1 (carried-to-object-claims t) (carried-to-object-at t) carried-to-object.Post
+      → carried-to-object-lts.Start (carried-to-object-claims t) (carried-to-object-at t) carried-to-object.Post
+  object-entry c = c .before .before .before .before .before .before
+
+  object-objects : (c : carried-to-object-lts.Else1 (carried-to-object-claims t) (carried-to-object-at t) carried-to-object.Post) →
+      let a = object-entry c .args in
+      OfObjectsRow (a .new .now) (a .rows1 .now) (a .a) true
+  object-objects c = rw (not-false (c .before .of-objects .result) (c .if1 .left)) at (c .before .of-objects .ensures)
+
+  -- the rows of "required" and of "optional"
+  object-required : (c : carried-to-object-lts.After-find (carried-to-object-claims t) (carried-to-object-at t) carried-to-object.Post) →
+      let a = object-entry (c .before .before) .args in
+      Finds (a .old .now) (a .rows2 .now) (a .b + 2) (text "required") (c .find .result)
+  object-required c = rw (plain .required) at (c .find .ensures)
+
+  object-optional : (c : carried-to-object-lts.After-find2 (carried-to-object-claims t) (carried-to-object-at t) carried-to-object.Post) →
+      let a = object-entry (c .before .before .before .before .before .before) .args in
+      Finds (a .old .now) (a .rows2 .now) (a .b + 2) (text "optional") (c .find2 .result)
+  object-optional c = rw (plain .optional) at (c .find2 .ensures)
+
+  carried-to-object-of-objects-requires : carried-to-object-lts.Need-of-objects-requires (carried-to-object-claims t) (carried-to-object-at t) carried-to-object.Post
+  carried-to-object-of-objects-requires c κs = c .before .before .before .before .pre .1 .given .new
+
+  carried-to-object-returns : carried-to-object-lts.Need-returns (carried-to-object-claims t) (carried-to-object-at t) carried-to-object.Post
+  carried-to-object-returns c = object-other (c .before .before .before .before .before .before .pre .1) (rw (not-true (c .before .of-objects .result) (c .if1 .taken)) at (c .before .of-objects .ensures))
+
+  carried-to-object-add-find : carried-to-object-lts.Need-add-find (carried-to-object-claims t) (carried-to-object-at t) carried-to-object.Post
+  carried-to-object-add-find c = object-fits (object-entry c)
+
+  carried-to-object-slice-aggregate-find : carried-to-object-lts.Need-slice-aggregate-find (carried-to-object-claims t) (carried-to-object-at t) carried-to-object.Post
+  carried-to-object-slice-aggregate-find c = search needs
+
+  carried-to-object-find-requires : carried-to-object-lts.Need-find-requires (carried-to-object-claims t) (carried-to-object-at t) carried-to-object.Post
+  carried-to-object-find-requires c κs = object-row (object-entry (c .before) .pre .1)
+
+  carried-to-object-carried-fields-requires : carried-to-object-lts.Need-carried-fields-requires (carried-to-object-claims t) (carried-to-object-at t) carried-to-object.Post
+  carried-to-object-carried-fields-requires c κs =
+      let s = object-entry (c .before .before) in
+      (omega (arith, object-less (s .pre .1) (object-required c), s .pre .0), required-pair (s .pre .1) (object-required c) (s .pre .1 .given))
+
+  carried-to-object-returns-2 : carried-to-object-lts.Need-returns-2 (carried-to-object-claims t) (carried-to-object-at t) carried-to-object.Post
+  carried-to-object-returns-2 c =
+      let f = c .before .before in
+      let e = f .before .before in
+      object-fails (object-entry e .pre .1) (object-objects e) (object-required f) (c .before .carried-fields .ensures) (not-true _ (c .if2 .taken))
+
+  carried-to-object-add-find-2 : carried-to-object-lts.Need-add-find-2 (carried-to-object-claims t) (carried-to-object-at t) carried-to-object.Post
+  carried-to-object-add-find-2 c = object-fits (object-entry (c .before .before .before .before))
+
+  carried-to-object-slice-aggregate-find-2 : carried-to-object-lts.Need-slice-aggregate-find-2 (carried-to-object-claims t) (carried-to-object-at t) carried-to-object.Post
+  carried-to-object-slice-aggregate-find-2 c = search needs
+
+  carried-to-object-find-requires-2 : carried-to-object-lts.Need-find-requires-2 (carried-to-object-claims t) (carried-to-object-at t) carried-to-object.Post
+  carried-to-object-find-requires-2 c κs = object-row (object-entry (c .before .before .before .before .before) .pre .1)
+
+  carried-to-object-carried-fields-requires-2 : carried-to-object-lts.Need-carried-fields-requires-2 (carried-to-object-claims t) (carried-to-object-at t) carried-to-object.Post
+  carried-to-object-carried-fields-requires-2 c κs =
+      let s = object-entry (c .before .before .before .before .before .before) in
+      (omega (arith, object-less (s .pre .1) (object-optional c), s .pre .0), optional-pair (s .pre .1) (object-optional c) (s .pre .1 .given))
+
+  carried-to-object-returns-3 : carried-to-object-lts.Need-returns-3 (carried-to-object-claims t) (carried-to-object-at t) carried-to-object.Post
+  carried-to-object-returns-3 c =
+      let i = c .before .before .before in
+      let f = i .before .before in
+      let e = f .before .before in
+      object-ends (object-entry e .pre .1) (object-objects e) (object-required f) (i .before .carried-fields .ensures) (not-false _ (i .if2 .left)) (object-optional (c .before)) (c .carried-fields2 .ensures)
+
+pub +carried+carried-field+carried-fields+carried-to-array+carried-to-map+carried-to-object-spec :
+    {M : Type 1} → statement M
++carried+carried-field+carried-fields+carried-to-array+carried-to-map+carried-to-object-spec =
+    close
+    μ-carried
+    μ-carried-field
+    μ-carried-fields
+    μ-carried-to-array
+    μ-carried-to-map
+    μ-carried-to-object
+    (λ t. carried-lts.spec (carried-claims t) (carried-at t)
+    carried.Post
+    (carried-generic-at-requires t)
+    (carried-enum-told t)
+    (carried-carried-to-array-requires t)
+    (carried-enum-told-2 t)
+    (carried-carried-to-map-requires t)
+    (carried-enum-told-3 t)
+    (carried-carried-to-object-requires t)
+    (carried-enum-told-4 t)
+    (carried-type-at-requires t)
+    (carried-type-at-requires-2 t)
+    (carried-carried-name-requires t)
+    (carried-returns t)
+    (carried-returns-2 t)
+    (carried-returns-3 t)
+    (carried-returns-4 t))
+    (λ t. carried-field-lts.spec (carried-field-claims t) (carried-field-at t)
+    carried-field.Post
+    (carried-field-row-at-requires t)
+    (carried-field-cast-from t)
+    (carried-field-add-from t)
+    (carried-field-cast-to t)
+    (carried-field-sub-to t)
+    (carried-field-sub-find-under t)
+    (carried-field-part-find-under-start t)
+    (carried-field-part-find-under-end t)
+    (carried-field-find-under-requires t)
+    (carried-field-add-carried t)
+    (carried-field-carried-requires t)
+    (carried-field-returns t)
+    (carried-field-returns-2 t)
+    (carried-field-add-is-json t)
+    (carried-field-is-json-requires t)
+    (carried-field-returns-3 t))
+    (λ t. carried-fields-lts.spec (carried-fields-claims t) (carried-fields-at t)
+    carried-fields.Post
+    carried-fields-Inv-loop
+    carried-fields-μ-loop
+    (carried-fields-returns t)
+    (carried-fields-row-at-requires t)
+    (carried-fields-add-row t)
+    (carried-fields-loop-holds t)
+    (carried-fields-carried-field-requires t)
+    (carried-fields-returns-2 t)
+    (carried-fields-add-row-at t)
+    (carried-fields-row-at-requires-2 t)
+    (carried-fields-sub-left t)
+    (carried-fields-loop-less t)
+    (carried-fields-loop-again t)
+    (carried-fields-returns-3 t))
+    (λ t. carried-to-array-lts.spec (carried-to-array-claims t) (carried-to-array-at t)
+    carried-to-array.Post
+    (carried-to-array-generic-at-requires t)
+    (carried-to-array-enum-told t)
+    (carried-to-array-add-carried t)
+    (carried-to-array-add-carried-2 t)
+    (carried-to-array-carried-requires t)
+    (carried-to-array-enum-told-2 t)
+    (carried-to-array-enum-told-3 t)
+    (carried-to-array-enum-told-4 t)
+    (carried-to-array-returns t)
+    (carried-to-array-returns-2 t)
+    (carried-to-array-returns-3 t)
+    (carried-to-array-returns-4 t))
+    (λ t. carried-to-map-lts.spec (carried-to-map-claims t) (carried-to-map-at t)
+    carried-to-map.Post
+    (carried-to-map-generic-at-requires t)
+    (carried-to-map-enum-told t)
+    (carried-to-map-enum-told-2 t)
+    (carried-to-map-add-carried t)
+    (carried-to-map-add-carried-2 t)
+    (carried-to-map-carried-requires t)
+    (carried-to-map-enum-told-3 t)
+    (carried-to-map-add-is-json t)
+    (carried-to-map-is-json-requires t)
+    (carried-to-map-enum-told-4 t)
+    (carried-to-map-returns t)
+    (carried-to-map-returns-2 t)
+    (carried-to-map-returns-3 t)
+    (carried-to-map-returns-4 t))
+    λ t. carried-to-object-lts.spec (carried-to-object-claims t) (carried-to-object-at t)
+    carried-to-object.Post
+    (carried-to-object-of-objects-requires t)
+    (carried-to-object-returns t)
+    (carried-to-object-add-find t)
+    (carried-to-object-slice-aggregate-find t)
+    (carried-to-object-find-requires t)
+    (carried-to-object-carried-fields-requires t)
+    (carried-to-object-returns-2 t)
+    (carried-to-object-add-find-2 t)
+    (carried-to-object-slice-aggregate-find-2 t)
+    (carried-to-object-find-requires-2 t)
+    (carried-to-object-carried-fields-requires-2 t)
+    (carried-to-object-returns-3 t)
