@@ -41,6 +41,23 @@ fn check() {
     lines::answer(schema::check(&document[..n], &schema[..m], &mut table1, &mut table2));
 }
 
+// `compare FILE FILE`: a new schema and an old one.
+fn compare() {
+    let mut new = [0u8; TEXT];
+    let Loaded::Bytes(n) = files::load(2, &mut new) else {
+        lines::no_file();
+        return;
+    };
+    let mut old = [0u8; TEXT];
+    let Loaded::Bytes(m) = files::load(3, &mut old) else {
+        lines::no_file();
+        return;
+    };
+    let mut table1 = [0u32; TABLE];
+    let mut table2 = [0u32; TABLE];
+    lines::answer(schema::compare(&new[..n], &old[..m], &mut table1, &mut table2));
+}
+
 // Whether the program was started with this command, and with as many arguments as it takes: its
 // own name and the command among them.
 fn asks(command: &[u8], count: usize) -> bool {
@@ -61,6 +78,8 @@ fn main() {
         read();
     } else if asks(b"check", 4) {
         check();
+    } else if asks(b"compare", 4) {
+        compare();
     } else {
         lines::no_file();
     }

@@ -3,7 +3,8 @@ ghost use mathlib.Core.Path.{_≡_};
 ghost use lib.ListN.{length};
 ghost use Rattle.reader.specs.Answer.{documentLimits, readWithin, answerOf, tableOf};
 ghost use Rattle.schema.specs.Check.{readSchema, checkAnswer, checkTable};
-ghost use Rattle.teleport_c.specs.Words.{answerWords};
+ghost use Rattle.schema.specs.Compare.{Compares, compareTable};
+ghost use Rattle.teleport_c.specs.Words.{answerWords, Written};
 
 // The four numbers of an answer.
 fn words(a: reader::Answer) -> [u32; 4]
@@ -35,4 +36,20 @@ pub extern "C" fn teleport_check(
     ensures rows2 { λ _. ⌜ now (table2 .exit) ≡ tableOf (now (table2 .entry)) (readSchema (now (schema .entry))) ⌝ }
 {
     *answer = words(schema::check(document, schema, table1, table2));
+}
+
+// Compare: a new schema and an old one, with a table for each.
+#[no_mangle]
+pub extern "C" fn teleport_compare(
+    new: &[u8],
+    old: &[u8],
+    table1: &mut [u32],
+    table2: &mut [u32],
+    answer: &mut [u32; 4],
+)
+    ensures compares { λ _. ⌜ Written (Compares (length (now (table1 .entry))) (length (now (table2 .entry))) (now (new .entry)) (now (old .entry))) (now (answer .exit)) ⌝ }
+    ensures rows1 { λ _. ⌜ now (table1 .exit) ≡ tableOf (now (table1 .entry)) (readSchema (now (new .entry))) ⌝ }
+    ensures rows2 { λ _. ⌜ now (table2 .exit) ≡ compareTable (length (now (table1 .entry))) (now (table2 .entry)) (now (new .entry)) (now (old .entry)) ⌝ }
+{
+    *answer = words(schema::compare(new, old, table1, table2));
 }

@@ -30,6 +30,9 @@ pub fn run(line: &[u8]) -> bool {
     if check::same(name, b"check") {
         return check(fields);
     }
+    if check::same(name, b"compare") {
+        return compare(fields);
+    }
     false
 }
 
@@ -90,5 +93,29 @@ fn check(fields: &[u8]) -> bool {
     let mut table1 = [0u32; TABLE];
     let mut table2 = [0u32; TABLE];
     lines::answer(schema::check(&document[..n], &schema[..m], &mut table1, &mut table2));
+    true
+}
+
+// `compare NEW OLD`.
+fn compare(fields: &[u8]) -> bool {
+    let tab = find(fields, 0, b'\t');
+    if tab == fields.len() {
+        return false;
+    }
+    let mut new = [0u8; TEXT];
+    let first = decode(&fields[0..tab], &mut new);
+    if !first.good {
+        return false;
+    }
+    let mut old = [0u8; TEXT];
+    let second = decode(&fields[tab + 1..], &mut old);
+    if !second.good {
+        return false;
+    }
+    let n = first.len;
+    let m = second.len;
+    let mut table1 = [0u32; TABLE];
+    let mut table2 = [0u32; TABLE];
+    lines::answer(schema::compare(&new[..n], &old[..m], &mut table1, &mut table2));
     true
 }

@@ -7,6 +7,7 @@
 //     rows N TEXT    Read, with a table of N words, at most 64, each 7 before; its words are
 //                    written behind the answer
 //     check D S      Check, of a document and a schema, with tables of 16,380 words
+//     compare N O    Compare, of a new schema and an old one, with tables of 16,380 words
 //
 // A text is the bytes of its field, but for `%`: `%XX`, two hex digits in upper case, is that byte,
 // and `%rNNNNN` with a byte or a `%XX` behind it is that byte NNNNN times. It has at most 65,600
