@@ -19,6 +19,7 @@ import model
 import model_meeting
 from model_check import MEETS, NAME_MISSING, NO_DATE, WRONG_KIND, check
 from model_compare import CARRIED, NOT_CARRIED, compare, witness
+from witness import witness as defined_witness
 
 DEFAULT_COUNT = 30000
 
@@ -62,8 +63,13 @@ class Comparison:
         return harness.compare(self.compare_function, compare, texts, lengths, self.chance)
 
     def witness_holds(self, new, old):
-        """After 30 there is a document that meets the new and fails the old."""
-        document = witness(definition(new), definition(old))
+        """After 30 there are documents that meet the new and fail the old:
+        one that is searched for, and the one of the definition."""
+        definitions = definition(new), definition(old)
+        documents = witness(*definitions), model_meeting.write(defined_witness(*definitions))
+        return all(self.shows(document, new, old) for document in documents)
+
+    def shows(self, document, new, old):
         right = (document is not None
                  and self.check_code(document, new) == MEETS
                  and self.check_code(document, old) in MISFITS)
