@@ -11,24 +11,23 @@ use denote.Enum.Declared.{tagOf}
 use types.Run.{OneOf}
 use lib.Dec.{eqb}
 use borrow.Author.Tests.{eq-eqb, ne-eqb}
-use Rattle.model.specs.Text.{text, same}
+use Rattle.model.specs.Text.{text}
 use Rattle.model.specs.Date.{isDate}
 use Rattle.model.specs.Meeting.{isSome}
 use Rattle.model.specs.Definition.{Named, JSON, Schema, Float, Integer, String, Boolean, DateTime, namedBy, definitionOf}
-use Rattle.chars.specs.Spelling.{IsQuoted}
 use Rattle.chars.specs.Tokens.{Kind, Null, False, True, Whole, Fractional, Quoted}
-use Rattle.reader.specs.Tree.{Node, scalar, array, object, Nodes, Members, no-member, member}
+use Rattle.reader.specs.Tree.{Node, scalar, array, object, Nodes, Members, member}
 use Rattle.reader.specs.Grammar.{nameOf}
 use Rattle.reader.specs.Spelling.{valueOf}
-use Rattle.reader.specs.Rows.{size, sizesMembers, countMembers}
-use Rattle.reader.specs.Holding.{word, Holds, Placed}
+use Rattle.reader.specs.Rows.{sizesMembers}
+use Rattle.reader.specs.Holding.{word}
 use Rattle.schema.specs.Located.{Located, named-at, array-at, map-at, object-at, LocatedFields, no-field, placeOf}
-use Rattle.schema.specs.Located.{Defined, faulty, fine, mapped, typeAt, unshared, Part, wrong, part, bothFields, joined, sharedAt}
-use Rattle.schema.specs.Located.{constructed, definitionAt, singleAt, bodyAt, partAt, partOf, fieldsAt}
+use Rattle.schema.specs.Located.{Defined, faulty, fine, wrong, part}
+use Rattle.schema.specs.Located.{definitionAt, partAt, fieldsAt}
 use Rattle.schema.specs.Mismatch.{mismatch, nothing, orElse, unless, isWhole, isNumber, isString, isBoolean, ifScalar, dateAt, namedAt}
 use Rattle.schema.specs.Mismatch.{firstElement, firstMember, lookup, judged, missing, skipped, mismatchAt, fieldsMismatch}
 use Rattle.schema.specs.Names.{typeName, genericOf, takesKind}
-use Rattle.schema.specs.Walking.{InTable, Reads, Rowed, ObjectRow, Finds, PartRow, faultOf, Defines, Judgeable, Judged, JudgedDate}
+use Rattle.schema.specs.Walking.{Reads, ObjectRow, Finds, faultOf, Defines, Judgeable, Judged, JudgedDate}
 use Rattle.schema.specs.Walking.{ArrayJudgeable, MapJudgeable, BodyJudgeable, FieldsJudgeable, absence, FieldsJudged}
 use Rattle.schema.specs.declared.rows.Record.{Record}
 use Rattle.schema.specs.declared.definitions.Fault.{Fault}
@@ -42,13 +41,14 @@ use Rattle.schema.proofs.names.TypeName.{the-type as type-names}
 use Rattle.schema.proofs.names.Generic.{the-type as generics}
 use Rattle.schema.proofs.Faults.{firstByte, located-first, fault-code}
 use Rattle.schema.proofs.Defining.{forget, definition-forgets, Added, added-fine}
-use Rattle.schema.proofs.Defines.{Sought, sought, partRows}
+use Rattle.schema.proofs.Defines.{sought, partRows}
+use Rattle.schema.proofs.Shapes.{type-fine, Under, under, Shaped, shaped, BodyAt, body-fine, Element, part-fields}
 use Rattle.schema.proofs.Trees.{kindOf, elementsIn, membersIn, row, string-row, array-row, object-row, kind-read, place-read, string-read}
 use Rattle.schema.proofs.Trees.{same-tree, as-row, row-object, as-object, part-object, same-part}
 use Rattle.schema.proofs.Trees.{MembersLeft, MemberHere, members-start, member-here, members-next, members-end, member-read}
 use Rattle.schema.proofs.Trees.{ValuesLeft, ValueHere, values-start, value-here, values-next, values-end}
 use Rattle.schema.proofs.Trees.{ElementsLeft, ElementHere, elements-start, element-here, elements-next, elements-end}
-use Rattle.schema.proofs.Trees.{Found, found, not-found, no-array, no-object, no-definition, no-date}
+use Rattle.schema.proofs.Trees.{Found, found, not-found, no-array, no-object, no-date}
 
 -- ---- what is judged first counts
 
@@ -102,10 +102,6 @@ module _ {s t : List ℕ} {r : ℕ} {x : Record} (p : Reads t r x) {o : ℕ} {m 
     date-not q e = date-string (rw q e)
 
 -- ---- type names
-
-type-fine : (p : ℕ) (x : Option Named) (d : Located) → typeAt p x ≡ fine d → (t : Named) × (x ≡ some t) × (d ≡ named-at p t)
-type-fine p none d q = absurd (let z : _≡_ {A = ℕ} 0 1 = cc in omega arith)
-type-fine p (some t) d q = (t, refl, cc)
 
 -- which kinds a type takes, by the tests of a value
 module _ (g : TypeName) (test : Kind → Bool) where
@@ -226,104 +222,6 @@ module _ {s₁ s₂ t₁ t₂ : List ℕ} {r₁ r₂ : ℕ} {x y : Record} {g : 
       pub named-refuses : b ≡ false → m ≡ mismatch 20 (x .first) (y .first) → Judged s₁ s₂ t₁ t₂ r₁ r₂ m
       named-refuses z e = named-kind (rw z e)
 
--- ---- definitions that are objects
-
-fine-kind : (s : List ℕ) (n : Node) (d : Located) → definitionAt s n ≡ fine d → (kindOf n ≡ 6 → ⊥) → kindOf n ≡ 8
-fine-kind s n d q h = go (ℕ-discrete (kindOf n) 8)
-  where
-    go : Dec (kindOf n ≡ 8) → kindOf n ≡ 8
-    go (yes e) = e
-    go (no e) = let z : faulty 10 (placeOf n) ≡ fine d = sym (no-definition s n h e) ∙ q in let x : _≡_ {A = ℕ} 0 1 = cc in absurd (omega arith)
-
-fine-count : (s : List ℕ) (p : ℕ) (ms : Members) (d : Located) → singleAt s p ms ≡ fine d → countMembers ms ≡ 1
-fine-count s p no-member d q = cc
-fine-count s p (member f e n no-member) d q = refl
-fine-count s p (member f e n (member g i m ms)) d q = cc
-
--- the one member of a definition: its name at row r + 1, its value at row r + 2
-pub record Under (s t : List ℕ) (r : ℕ) (d : Located) : Type 0 where
-  pub value : Rowed s t (r + 2)
-  pub in-table : InTable t (r + 1)
-  pub quoted : IsQuoted s (word t (r + 1) 1) (word t (r + 1) 2)
-  pub less : word t (r + 2) 4 < word t r 4
-  pub is : constructed (word t r 1) (word t (r + 1) 1) (nameOf s (word t (r + 1) 1) (word t (r + 1) 2))
-      (definitionAt s (value .tree)) (bodyAt s (word t r 1) (value .tree)) ≡ fine d
-
-module _ {s t : List ℕ} {r : ℕ} (w : Rowed s t r) {d : Located} (q : definitionAt s (w .tree) ≡ fine d) where
-  under-object : word t r 0 ≡ 8 → Under s t r d
-  under-object k =
-      let o = as-object w k in
-      let g : singleAt s (word t r 1) (o .members) ≡ fine d = sym (ap (definitionAt s) (object-row w k)) ∙ q in
-      let c : word t r 3 ≡ 1 = o .holds .0 .direct ∙ fine-count s (word t r 1) (o .members) d g in
-      let a = members-start o refl in
-      let m = member-here a (omega arith) in
-      let e : r + 1 + 1 ≡ r + 2 = omega arith in
-      let h : Holds t (r + 2) (m .value .tree) = subst (λ (x : ℕ). Holds t x (m .value .tree)) e (m .value .holds) in
-      let v : Rowed s t (r + 2) = record { tree = m .value .tree; holds = h; placed = m .value .placed } in
-      let i = m .is ∙ ap (member (word t (r + 1) 1) (word t (r + 1) 2) (v .tree)) (members-end (members-next a m refl) (omega arith)) in
-      record {
-        value = v;
-        in-table = m .in-table;
-        quoted = m .quoted;
-        less = omega (arith, row v .subtree, row w .subtree, ap size (object-row w k), ap sizesMembers i);
-        is = sym (ap (singleAt s (word t r 1)) i) ∙ g;
-      }
-
-  pub under : (word t r 0 ≡ 6 → ⊥) → Under s t r d
-  under h = under-object (row w .kind ∙ fine-kind s (w .tree) d q (λ e. h (row w .kind ∙ e)))
-
--- what the definition is, by the generic type that the name is
-abbrev Shaped : List ℕ → ℕ → Node → Generic → Located → Type 0
-Shaped s p n Array d = (e : Located) × (definitionAt s n ≡ fine e) × (d ≡ array-at p e)
-Shaped s p n Map d = (e : Located) × (definitionAt s n ≡ fine e) × (d ≡ map-at p e)
-Shaped s p n Object d = bodyAt s p n ≡ fine d
-Shaped s p n Other d = ⊥
-
-mapped-fine : (f : Located → Located) (x : Defined Located) (d : Located) → mapped f x ≡ fine d → (e : Located) × (x ≡ fine e) × (d ≡ f e)
-mapped-fine f (faulty c p) d q = absurd (let z : _≡_ {A = ℕ} 0 1 = cc in omega arith)
-mapped-fine f (fine e) d q = (e, refl, cc)
-
-shaped : (s : List ℕ) (p i : ℕ) (k : List ℕ) (n : Node) (d : Located) → constructed p i k (definitionAt s n) (bodyAt s p n) ≡ fine d
-    → Shaped s p n (genericOf k) d
-unfolding genericOf
-shaped s p i k n d = go (same k (text "Array")) (same k (text "Map")) (same k (text "Object"))
-  where
-    go : (a m b : Bool) → cond a (mapped (array-at p) (definitionAt s n)) (cond m (mapped (map-at p) (definitionAt s n)) (cond b (bodyAt s p n) (faulty 11 i))) ≡ fine d
-        → Shaped s p n (cond a Array (cond m Map (cond b Object Other))) d
-    go true m b q = mapped-fine (array-at p) (definitionAt s n) d q
-    go false true b q = mapped-fine (map-at p) (definitionAt s n) d q
-    go false false true q = q
-    go false false false q = let z : _≡_ {A = ℕ} 0 1 = cc in omega arith
-
--- the body of an Object, whose parts are these fields
-record BodyAt (s : List ℕ) (n : Node) (required optional : LocatedFields) : Type 0 where
-  pub object : kindOf n ≡ 8
-  pub firsts : Members
-  pub seconds : Members
-  pub first : partAt s (text "required") (membersIn n) ≡ part firsts (fine required)
-  pub second : partAt s (text "optional") (membersIn n) ≡ part seconds (fine optional)
-
-both-fine : (o : Option ℕ) (p : ℕ) (x y : Defined LocatedFields) (d : Located) → unshared o (bothFields p x y) ≡ fine d
-    → (r : LocatedFields) × (q : LocatedFields) × (x ≡ fine r) × (y ≡ fine q) × (d ≡ object-at p r q)
-both-fine none p (faulty c i) y d q = absurd (let z : _≡_ {A = ℕ} 0 1 = cc in omega arith)
-both-fine none p (fine r) (faulty c i) d q = absurd (let z : _≡_ {A = ℕ} 0 1 = cc in omega arith)
-both-fine none p (fine r) (fine o) d q = (r, o, refl, refl, cc)
-both-fine (some i) p x y d q = absurd (let z : _≡_ {A = ℕ} 0 1 = cc in omega arith)
-
-body-fine : (s : List ℕ) (p : ℕ) (n : Node) (d : Located) → bodyAt s p n ≡ fine d
-    → (r : LocatedFields) × (o : LocatedFields) × BodyAt s n r o × (d ≡ object-at p r o)
-body-fine s p (scalar k f e) d q = absurd (let z : _≡_ {A = ℕ} 0 1 = cc in omega arith)
-body-fine s p (array f e ns) d q = absurd (let z : _≡_ {A = ℕ} 0 1 = cc in omega arith)
-body-fine s p (object f e ms) d q = go (partAt s (text "required") ms) (partAt s (text "optional") ms) refl refl q
-  where
-    go : (x y : Part) → partAt s (text "required") ms ≡ x → partAt s (text "optional") ms ≡ y → joined s p x y ≡ fine d
-        → (r : LocatedFields) × (o : LocatedFields) × BodyAt s (object f e ms) r o × (d ≡ object-at p r o)
-    go (wrong i) y g h q = absurd (let z : _≡_ {A = ℕ} 0 1 = cc in omega arith)
-    go (part ns x) (wrong i) g h q = absurd (let z : _≡_ {A = ℕ} 0 1 = cc in omega arith)
-    go (part ns x) (part os y) g h q =
-        let b = both-fine (sharedAt s ns os) p x y d q in
-        (b .0, b .1, record { object = refl; firsts = ns; seconds = os; first = g ∙ ap (part ns) (b .2); second = h ∙ ap (part os) (b .3) }, b .4)
-
 -- ---- the generic type was read
 
 pub record GenericRead (s₁ s₂ t₁ t₂ : List ℕ) (r₁ r₂ : ℕ) (y : Record) (g : Generic) : Type 0 where
@@ -408,12 +306,6 @@ module _ {s₁ s₂ t₁ t₂ : List ℕ} {r₁ r₂ : ℕ} (j : Judgeable s₁ 
   generic-shape =
       let k = nameOf s₂ (word t₂ (r₂ + 1) 1) (word t₂ (r₂ + 1) 2) in
       (genericOf k, shaped s₂ (word t₂ r₂ 1) (word t₂ (r₂ + 1) 1) k (generic-under .value .tree) (j .definition) (generic-under .is))
-
--- the definition under Array or Map, at row r + 2
-pub record Element (s t : List ℕ) (r : ℕ) (e : Located) : Type 0 where
-  pub value : Rowed s t (r + 2)
-  pub defines : definitionAt s (value .tree) ≡ fine e
-  pub less : word t (r + 2) 4 < word t r 4
 
 module _ {s₁ s₂ t₁ t₂ : List ℕ} {r₁ r₂ : ℕ} where
   pub array-element : (j : ArrayJudgeable s₁ s₂ t₁ t₂ r₁ r₂) → Element s₂ t₂ r₂ (j .element)
@@ -529,26 +421,6 @@ module _ {s₁ s₂ t₁ t₂ : List ℕ} {r₁ r₂ at left : ℕ} (a : InMap s
         record { given = a .given; rest = value .others; ahead = values-next (a .ahead) value (ap (λ (r : ℕ). r + 1) (p .next)); stays = turn-goes-on map-turn h c }
 
 -- ---- an object against the fields of a definition
-
--- the fields at the row that was found, where they are defined
-pub part-fields : {s t : List ℕ} {r : ℕ} (v : ℕ) {x : Part} {ms : Members} {fs : LocatedFields} → Sought s t r v x → x ≡ part ms (fine fs)
-    → (w : PartRow s t v) × (fieldsAt s (w .members) ≡ fine fs)
-part-fields zero {fs = fs} k q =
-    let e = k .absent refl in
-    let z : fine no-field ≡ fine fs = cc in
-    (record { members = no-member; absent = λ _. refl; present = λ l. absurd (omega arith) }, z)
-part-fields {s} {t} (suc v) {x} {ms} {fs} k q = go (w .tree) (w .holds) (w .placed) (sym (k .is l) ∙ q)
-  where
-    l : 0 < suc v
-    l = omega arith
-
-    w : Rowed s t (suc v)
-    w = k .value l
-
-    go : (n : Node) → Holds t (suc v) n → Placed s n → partOf s n ≡ part ms (fine fs) → (w : PartRow s t (suc v)) × (fieldsAt s (w .members) ≡ fine fs)
-    go (scalar c f e) h p q = absurd (let z : _≡_ {A = ℕ} 0 1 = cc in omega arith)
-    go (array f e ns) h p q = absurd (let z : _≡_ {A = ℕ} 0 1 = cc in omega arith)
-    go (object f e ns) h p q = (record { members = ns; absent = λ e. absurd (omega arith); present = λ _. (f, e, h, p) }, cc)
 
 -- an object, and the body of the definition under Object, at row r₂ + 2
 pub record InBody (s₁ s₂ t₁ t₂ : List ℕ) (r₁ r₂ : ℕ) : Type 0 where

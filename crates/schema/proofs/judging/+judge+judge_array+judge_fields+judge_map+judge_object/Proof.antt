@@ -15,7 +15,8 @@ use Rattle.schema.specs.Walking.{ObjectRow, Finds}
 use Rattle.schema.proofs.Words.{plain}
 use Rattle.schema.proofs.Trees.{in-table, as-row, part-object, quotes-read, row-behind, MemberHere}
 use Rattle.schema.proofs.Defines.{partRows, part-rows}
-use Rattle.schema.proofs.Judges.{Under, under, GenericRead, reads-array, reads-map, reads-object, Turn, turn-stops}
+use Rattle.schema.proofs.Shapes.{Under, under}
+use Rattle.schema.proofs.Judges.{GenericRead, reads-array, reads-map, reads-object, Turn, turn-stops}
 use Rattle.schema.proofs.Judges.{InArray, array-other, array-start, array-turn, array-next, array-end}
 use Rattle.schema.proofs.Judges.{InMap, map-other, map-start, map-turn, map-next, map-end}
 use Rattle.schema.proofs.Judges.{InBody, object-other, object-start, fields-found, part-less, required-stops, optional-ends}
