@@ -427,25 +427,29 @@ def deep_texts():
         yield mixed + b"0" + b"]" * (brackets % 2) + b"}]" * (brackets // 2)
 
 
+def take_turns(sources):
+    """What the sources give, each thing once, the sources taking turns."""
+    seen = set()
+    while sources:
+        for source in list(sources):
+            found = next(source, None)
+            if found is None:
+                sources.remove(source)
+            elif found not in seen:
+                seen.add(found)
+                yield found
+
+
 def texts(seed):
-    """Distinct texts without end, the sources taking turns."""
+    """Distinct texts without end."""
     chance = random.Random(seed)
-    sources = [
+    return take_turns([
         long_texts(),
         shuffled(every_byte(chance), chance),
         shuffled(short_damaged(chance), chance),
         random_whole(chance),
         random_damaged(chance),
-    ]
-    seen = set()
-    while True:
-        for source in list(sources):
-            text = next(source, None)
-            if text is None:
-                sources.remove(source)
-            elif text not in seen:
-                seen.add(text)
-                yield text
+    ])
 
 
 def main(arguments):

@@ -745,23 +745,10 @@ def faulty_schema_pairs(chance):
         yield tuple(texts)
 
 
-def take_turns(sources):
-    """Distinct pairs without end, the sources taking turns."""
-    seen = set()
-    while True:
-        for source in list(sources):
-            pair = next(source, None)
-            if pair is None:
-                sources.remove(source)
-            elif pair not in seen:
-                seen.add(pair)
-                yield pair
-
-
 def check_pairs(seed):
     """Pairs of a document and a schema."""
     chance = random.Random(seed)
-    return take_turns([
+    return generate.take_turns([
         small_check_pairs(chance), limit_check_pairs(chance), date_pairs(chance),
         meeting_pairs(chance), meeting_pairs(chance), faulty_pairs(chance),
         bad_text_pairs(chance), unrelated_pairs(chance)])
@@ -770,7 +757,7 @@ def check_pairs(seed):
 def schema_pairs(seed):
     """Pairs of a new and an old schema."""
     chance = random.Random(seed)
-    return take_turns([
+    return generate.take_turns([
         small_schema_pairs(chance), limit_schema_pairs(chance), derived_schema_pairs(chance),
         derived_schema_pairs(chance), derived_schema_pairs(chance),
         unrelated_schema_pairs(chance), faulty_schema_pairs(chance)])
