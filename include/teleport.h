@@ -1,0 +1,96 @@
+/* Reads JSON text, checks a document against a Teleport schema, compares two schemas. */
+#ifndef TELEPORT_H
+#define TELEPORT_H
+
+#include <stddef.h>
+#include <stdint.h>
+
+#ifdef __cplusplus
+extern "C" {
+#endif
+
+/* answer[0]. Behind each code: answer[2], the place, and answer[3], other. A place is a byte of a text, counted from 0. */
+enum teleport_code {
+    TELEPORT_OK = 0,                  /* read, met or carried: 0; after Read the number of rows */
+    TELEPORT_TOO_LONG = 1,            /* the limit; 0 */
+    TELEPORT_ENDED_EARLY = 2,         /* the length of the text; 0 */
+    TELEPORT_BYTE_NOT_ALLOWED = 3,    /* that byte; 0 */
+    TELEPORT_NOT_UTF8 = 4,            /* the first breaking byte inside a string; 0 */
+    TELEPORT_LONE_SURROGATE = 5,      /* the first byte that shows it; 0 */
+    TELEPORT_NAME_TWICE = 6,          /* the closing quote of the later name; 0 */
+    TELEPORT_TOO_DEEP = 7,            /* the opening bracket; 0 */
+    TELEPORT_NO_ROOM = 8,             /* 0; the rows needed */
+    TELEPORT_NOT_A_DEFINITION = 10,   /* the first byte of the value; 0 */
+    TELEPORT_UNKNOWN_TYPE = 11,       /* the opening quote of its name; 0 */
+    TELEPORT_REQUIRED_OPTIONAL = 12,  /* the opening quote of the name under "optional"; 0 */
+    TELEPORT_WRONG_KIND = 20,         /* the value's first byte; the definition's first byte, in the schema */
+    TELEPORT_MISSING = 21,            /* the object's brace; the opening quote of the name, in the schema */
+    TELEPORT_NO_DATE = 22,            /* the string's opening quote; the definition's first byte, in the schema */
+    TELEPORT_NOT_CARRIED = 30         /* 0; 0 */
+};
+
+/* answer[1] is the text that the place is in: 1 or 2 in the order of the arguments, 0 for none. */
+enum { TELEPORT_CODE = 0, TELEPORT_TEXT = 1, TELEPORT_PLACE = 2, TELEPORT_OTHER = 3, TELEPORT_ANSWER_WORDS = 4 };
+
+/* The longest text in bytes, and how many brackets may stand open. */
+enum {
+    TELEPORT_DOCUMENT_LIMIT = 65536,
+    TELEPORT_DOCUMENT_DEPTH = 32,
+    TELEPORT_SCHEMA_LIMIT = 16384,
+    TELEPORT_SCHEMA_DEPTH = 24
+};
+
+/* A table has one row of five words for each value and each member name, in order of their first bytes. */
+enum {
+    TELEPORT_ROW_KIND = 0,
+    TELEPORT_ROW_FIRST = 1,    /* first byte; of a string or name, its opening quote */
+    TELEPORT_ROW_END = 2,      /* the byte after the last */
+    TELEPORT_ROW_CHILDREN = 3, /* its elements or members */
+    TELEPORT_ROW_SUBTREE = 4,  /* rows of the whole subtree, its own included */
+    TELEPORT_ROW_WORDS = 5
+};
+
+enum teleport_kind {
+    TELEPORT_NULL = 1,
+    TELEPORT_FALSE = 2,
+    TELEPORT_TRUE = 3,
+    TELEPORT_WHOLE = 4,      /* a number without fraction or exponent */
+    TELEPORT_FRACTIONAL = 5, /* any other number */
+    TELEPORT_STRING = 6,
+    TELEPORT_ARRAY = 7,
+    TELEPORT_OBJECT = 8,
+    TELEPORT_NAME = 9
+};
+
+/*
+ * What the caller keeps, in each call:
+ * - A text pointer is not NULL and leads to as many readable bytes as its length says; a table pointer is not NULL, is
+ *   aligned for uint32_t and leads to as many writable words as its length says. A length may be 0.
+ * - answer has four words. No table overlaps the other table, a text or the answer, and nobody else writes to any of
+ *   them during the call. The two texts may overlap or be the same.
+ *
+ * Every call returns, whatever the bytes are. It allocates nothing, keeps no state, may run on several threads and
+ * needs less than 160 KiB of stack. A text that is refused leaves its table as it was, and so is every word behind the
+ * last row. A text has at most as many rows as bytes.
+ *
+ *     static const uint8_t text[] = "[1,]";
+ *     uint32_t table[5 * 4], answer[4];
+ *     teleport_read(text, 4, table, 20, answer);    answer is 3 1 3 0: the byte at place 3 is not allowed there
+ */
+
+/* Is the text well-formed JSON? Writes its rows to table. */
+void teleport_read(const uint8_t *text, size_t text_len, uint32_t *table, size_t table_len, uint32_t answer[4]);
+
+/* Does the document (text 1, table1) meet the schema (text 2, table2)? The schema is judged first. */
+void teleport_check(const uint8_t *document, size_t document_len, const uint8_t *schema, size_t schema_len,
+                    uint32_t *table1, size_t table1_len, uint32_t *table2, size_t table2_len, uint32_t answer[4]);
+
+/* Does every JSON value that meets the new schema (text 1, table1) meet the old one (text 2, table2)? */
+void teleport_compare(const uint8_t *new_schema, size_t new_len, const uint8_t *old_schema, size_t old_len,
+                      uint32_t *table1, size_t table1_len, uint32_t *table2, size_t table2_len, uint32_t answer[4]);
+
+#ifdef __cplusplus
+}
+#endif
+
+#endif
