@@ -8,11 +8,12 @@ use lib.ListN.{replicate}
 use Rattle.model.specs.Value.{Value, null, array, object, Values, vnil, Members, mnil, mcons, Among, Under, hasName}
 use Rattle.model.specs.Value.{IsJson}
 use Rattle.model.specs.Definition.{Named, JSON, Schema, Float, Integer, String, Boolean, DateTime, Def, named, array-of, map-of}
-use Rattle.model.specs.Definition.{object-of, Fields, fnil, fcons, hasField, WellFormed, AreFields}
+use Rattle.model.specs.Definition.{object-of, Fields, fnil, fcons, hasField}
 use Rattle.model.specs.Meeting.{IfArray, IfObject, meetsNamed, HasNames, Meets, FieldsMeet}
 use Rattle.model.specs.Subtype.{is, subtypeNamed, ofObjects, other, under, requires, requiresAll, subtype, subtypeFields}
 use Rattle.model.specs.Witness.{plain, apart, sample, kept, ownRun, fresh, others, beyondNamed, witness, witnessFields}
 use Rattle.model.proofs.Basics.{and-false, clash, false-of, both, by-test}
+use Rattle.model.proofs.Formed.{WellFormed, AreFields}
 use Rattle.model.proofs.Samples.{plain-meets, plain-json, kept-name, sample-meets, sample-json, member-json, member-meets}
 use Rattle.model.proofs.Samples.{fresh-text, fresh-under, other-formed, under-formed}
 

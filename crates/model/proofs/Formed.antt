@@ -7,10 +7,22 @@ use mathlib.Core.List.{List}
 use Rattle.model.specs.Text.{text, same, isText}
 use Rattle.model.specs.Value.{Value, null, boolean, number, string, array, object, Members, mnil, mcons, hasName, IsJson}
 use Rattle.model.specs.Value.{AreMembers}
-use Rattle.model.specs.Definition.{Def, named, array-of, map-of, Fields, hasField, disjoint, namedBy, isEmpty, mapped, added}
-use Rattle.model.specs.Definition.{joined, constructed, definitionOf, single, objectOf, part, fieldsOf, fieldsIn, WellFormed}
-use Rattle.model.specs.Definition.{AreFields}
+use Rattle.model.specs.Definition.{Def, named, array-of, map-of, object-of, Fields, fnil, fcons, hasField, disjoint, namedBy}
+use Rattle.model.specs.Definition.{isEmpty, mapped, added, joined, constructed, definitionOf, single, objectOf, part, fieldsOf}
+use Rattle.model.specs.Definition.{fieldsIn}
 use Rattle.model.proofs.Basics.{both}
+
+-- a definition that some JSON value is: names are texts, differ, and are not both required and optional
+abbrev mutual
+  pub WellFormed : Def → Type 0
+  WellFormed (named t) = Unit
+  WellFormed (array-of d) = WellFormed d
+  WellFormed (map-of d) = WellFormed d
+  WellFormed (object-of r o) = AreFields r × AreFields o × (disjoint r o ≡ true)
+
+  pub AreFields : Fields → Type 0
+  AreFields fnil = Unit
+  AreFields (fcons n d fs) = (isText n ≡ true) × (hasField n fs ≡ false) × WellFormed d × AreFields fs
 
 abbrev Formed : Option Def → Type 0
 Formed none = Unit

@@ -9,12 +9,13 @@ use lib.ListN.{replicate}
 use Rattle.model.specs.Text.{text, same, isText}
 use Rattle.model.specs.Value.{Value, object, Members, mnil, mcons, Under, hasName, IsJson, AreMembers}
 use Rattle.model.specs.Definition.{Named, JSON, Schema, Float, Integer, String, Boolean, DateTime, Def, named, array-of, map-of}
-use Rattle.model.specs.Definition.{object-of, Fields, fnil, fcons, hasField, disjoint, WellFormed, AreFields}
+use Rattle.model.specs.Definition.{object-of, Fields, fnil, fcons, hasField, disjoint}
 use Rattle.model.specs.Meeting.{meetsNamed, HasNames, Meets, FieldsMeet}
 use Rattle.model.specs.Subtype.{fieldOr, ofObjects, other, under}
 use Rattle.model.specs.Witness.{plain, sample, kept, run, longestRun, ownRun, fresh, withMember}
 use Rattle.model.proofs.Basics.{same-eq, same-of, same-refl, or-true, or-false, or-left, or-right, not-true, clash, false-of}
 use Rattle.model.proofs.Basics.{both, by-test}
+use Rattle.model.proofs.Formed.{WellFormed, AreFields}
 
 pub plain-meets : (t : Named) → meetsNamed t (plain t) ≡ true
 plain-meets JSON = refl

@@ -3,12 +3,12 @@ use mathlib.Core.Path.{_≡_}
 use mathlib.Core.Bool.{true, false}
 use mathlib.Core.Option.{some}
 use Rattle.model.specs.Value.{Value, IsJson}
-use Rattle.model.specs.Definition.{Def, definitionOf, WellFormed}
+use Rattle.model.specs.Definition.{Def, definitionOf}
 use Rattle.model.specs.Meeting.{Meets}
 use Rattle.model.specs.Subtype.{subtype}
 use Rattle.model.proofs.Sound.{sound}
 use Rattle.model.proofs.Complete.{complete}
-use Rattle.model.proofs.Formed.{definition-formed}
+use Rattle.model.proofs.Formed.{WellFormed, definition-formed}
 
 -- over definitions; the first half needs neither condition
 pub subtype-true : (a b : Def) → subtype a b ≡ true → (v : Value) → IsJson v → Meets a v → Meets b v

@@ -1,10 +1,9 @@
 -- Type definitions (01, "Definitions"; Teleport draft-04), and which value is which definition, of any length and depth.
 use Prim.Native.Nat.{ℕ}
-use mathlib.Core.Path.{_≡_}
 use mathlib.Core.Bool.{Bool, true, false, not, cond, _&&_, _||_}
 use mathlib.Core.Option.{Option, none, some}
 use mathlib.Core.List.{List}
-use Rattle.model.specs.Text.{text, same, isText}
+use Rattle.model.specs.Text.{text, same}
 use Rattle.model.specs.Value.{Value, null, boolean, number, string, array, object, Members, mnil, mcons}
 
 -- "one of the strings JSON, Schema, Float, Integer, String, Boolean, DateTime"
@@ -114,15 +113,3 @@ abbrev mutual
   pub fieldsIn : Members → Option Fields
   fieldsIn mnil = some fnil
   fieldsIn (mcons n v ms) = added n (definitionOf v) (fieldsIn ms)
-
--- a definition that some JSON value is: names are texts, differ, and are not both required and optional
-abbrev mutual
-  pub WellFormed : Def → Type 0
-  WellFormed (named t) = Unit
-  WellFormed (array-of d) = WellFormed d
-  WellFormed (map-of d) = WellFormed d
-  WellFormed (object-of r o) = AreFields r × AreFields o × (disjoint r o ≡ true)
-
-  pub AreFields : Fields → Type 0
-  AreFields fnil = Unit
-  AreFields (fcons n d fs) = (isText n ≡ true) × (hasField n fs ≡ false) × WellFormed d × AreFields fs
