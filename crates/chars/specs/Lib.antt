@@ -8,3 +8,5 @@ pub mod Tokens
 pub mod Numbers
 pub mod Scalars
 pub mod Spelling
+pub mod Plain
+pub mod Hashing

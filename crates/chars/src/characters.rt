@@ -7,6 +7,7 @@ use crate::bytes::named;
 use crate::bytes::peek;
 use crate::bytes::six_at;
 use crate::bytes::wide;
+use crate::plain::is_plain;
 ghost use mathlib.Core.Path.{_≡_};
 ghost use Prim.Native.Nat.{_+_, _≤_, _<_};
 ghost use lib.ListN.{length};
@@ -206,10 +207,11 @@ fn four(text: &[u8], at: usize, b: u8) -> Step
     }
 }
 
-// What stands at a place of a string.
-pub fn char_at(text: &[u8], at: usize) -> Step
+// What stands at a place of a string, whichever it is.
+pub fn special(text: &[u8], at: usize) -> Step
     ensures { λ r. ⌜ r ≡ charAt (now (text .entry)) at ⌝ }
 {
+    let text = &text[..];
     let b = peek(text, at);
     match b {
         b'"' => Step::Quote,
@@ -225,4 +227,21 @@ pub fn char_at(text: &[u8], at: usize) -> Step
         0xf0..=0xf4 => four(text, at, b),
         _ => stop(text, at, 4),
     }
+}
+
+// The same: a byte that stands for itself, and the closing quote, are told without a call.
+pub fn char_at(text: &[u8], at: usize) -> Step
+    ensures { λ r. ⌜ r ≡ charAt (now (text .entry)) at ⌝ }
+{
+    let b = peek(text, at);
+    if is_plain(b) {
+        return Step::Char {
+            value: wide(b),
+            next: at + 1,
+        };
+    }
+    if b == b'"' {
+        return Step::Quote;
+    }
+    special(text, at)
 }

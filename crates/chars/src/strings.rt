@@ -1,7 +1,13 @@
 // Strings and names.
+use crate::bytes::peek;
 use crate::characters::Step;
 use crate::characters::char_at;
+use crate::characters::special;
+use crate::plain::is_plain;
+use crate::plain::plain;
+use crate::wide::wides;
 ghost use mathlib.Core.Path.{_≡_};
+ghost use mathlib.Core.Bool.{true, false};
 ghost use Rattle.model.specs.Text.{same};
 ghost use Rattle.chars.specs.Strings.{stringAt, characters};
 
@@ -17,7 +23,11 @@ pub fn string_end(text: &[u8], at: usize) -> Scan
 {
     let mut i = at;
     loop {
-        match char_at(text, i) {
+        i = wides(text, plain(text, i));
+        if peek(text, i) == b'"' {
+            return Scan::Ends(i + 1);
+        }
+        match special(text, i) {
             Step::Char { value: _, next } => {
                 i = next;
             }
@@ -31,10 +41,48 @@ pub fn string_end(text: &[u8], at: usize) -> Scan
     }
 }
 
+// The bytes are the same.
+fn equal(a: &[u8], b: &[u8]) -> bool
+    ensures { λ r. ⌜ (r ≡ true → now (a .entry) ≡ now (b .entry)) ⌝ }
+{
+    let n = a.len();
+    if b.len() != n {
+        return false;
+    }
+    let mut i = 0;
+    while i < n {
+        if a[i] != b[i] {
+            return false;
+        }
+        i += 1;
+    }
+    true
+}
+
+// Whether two names begin with different bytes that stand for themselves, so that they are not the same.
+pub fn apart(a: &[u8], b: &[u8]) -> bool
+    ensures { λ r. ⌜ (r ≡ true → same (characters (now (a .entry))) (characters (now (b .entry))) ≡ false) ⌝ }
+{
+    let x = peek(a, 0);
+    let y = peek(b, 0);
+    if x == y {
+        return false;
+    }
+    if is_plain(x) {
+        return is_plain(y);
+    }
+    false
+}
+
 // Whether two names, each as the bytes between its quotes, have the same characters.
 pub fn same_name(a: &[u8], b: &[u8]) -> bool
     ensures { λ r. ⌜ r ≡ same (characters (now (a .entry))) (characters (now (b .entry))) ⌝ }
 {
+    if equal(a, b) {
+        return true;
+    }
+    let a = &a[..];
+    let b = &b[..];
     let mut i = 0;
     let mut j = 0;
     loop {

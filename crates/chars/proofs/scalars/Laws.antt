@@ -1,5 +1,5 @@
 -- Values that hold no other: what their first byte says, where they end, and how they are spelled.
-use mathlib.Core.Path.{_≡_, refl, sym, ap, _∙_, subst}
+use mathlib.Core.Path.{_≡_, refl, sym, _∙_, subst}
 use mathlib.Core.List.{List, [], _∷_}
 use mathlib.Core.Bool.{true, _||_, or-true}
 use Prim.Native.Nat.{ℕ, _+_, _-_, _≤_, _<_}
@@ -23,7 +23,7 @@ use Rattle.chars.specs.Spelling.{Spells, IsQuoted}
 use Rattle.chars.proofs.bytes.Laws.{both, and-ways, in-text}
 use Rattle.chars.proofs.characters.Laws.{Scalar}
 use Rattle.chars.proofs.strings.Laws.{ScanAhead, string-ahead, string-close}
-use Rattle.chars.proofs.strings.Parts.{part-characters}
+use Rattle.chars.proofs.strings.Parts.{body-characters}
 use Rattle.chars.proofs.strings.Meaning.{Scalars, scalars}
 use Rattle.chars.proofs.Bounds.{Bounded, unexpected-ways, unexpected-bounded, unexpected-end}
 use Rattle.chars.proofs.Pieces.{part-none, part-cons}
@@ -148,7 +148,7 @@ quoted-bounds {s} {f} {e} q = let h = string-close s (f + 1) e (q .ends) in (ome
 
 -- the characters of a string are those of its bytes between the quotes
 pub quoted-characters : {s : List ℕ} {f e : ℕ} → IsQuoted s f e → characters (part s (f + 1) (e - 1)) ≡ charsAt s (f + 1)
-quoted-characters {s} {f} {e} q = let b = quoted-bounds q in let z : e ≡ e - 1 + 1 = omega arith in part-characters s (f + 1) (e - 1) (q .ends ∙ ap Ends z)
+quoted-characters {s} {f} {e} q = body-characters s (f + 1) e (q .ends)
 
 scalar-test : (v : ℕ) → Scalar v → isScalar v ≡ true
 scalar-test v h = go (decLt v 0xD800)

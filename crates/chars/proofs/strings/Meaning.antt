@@ -10,7 +10,7 @@ use borrow.Author.Tests.{eq-eqb, eqb-true}
 use Rattle.chars.specs.declared.characters.Step.{Step}
 use Rattle.chars.specs.declared.characters.Step.the-variants.{Char, Quote, Refused}
 use Rattle.chars.specs.Characters.{charAt}
-use Rattle.chars.specs.Strings.{spell, charsFrom, charsAt}
+use Rattle.chars.specs.Strings.{spell, charsFrom, charsAt, characters}
 use Rattle.model.specs.Text.{same}
 use Rattle.chars.proofs.bytes.Laws.{and-ways}
 use Rattle.chars.proofs.characters.Laws.{Scalar, Ahead, char-ahead}
@@ -18,6 +18,9 @@ use Rattle.chars.proofs.characters.Laws.{Scalar, Ahead, char-ahead}
 pub same-refl : (xs : List ℕ) → same xs xs ≡ true
 same-refl [] = refl
 same-refl (x ∷ xs) = rw (eq-eqb x x refl) (same-refl xs)
+
+pub same-names : (a b : List ℕ) → a ≡ b → same (characters a) (characters b) ≡ true
+same-names a b e = rw e (same-refl (characters b))
 
 pub same-true : (xs ys : List ℕ) → same xs ys ≡ true → xs ≡ ys
 same-true [] [] t = refl

@@ -199,3 +199,7 @@ part-characters s i c e =
     walk s (part s i c) i c
     (λ y x q l. let m : y < c - i = omega arith in let w : i + y ≡ x = omega arith in getD-take (c - i) (drop i s) y 0 m ∙ getD-drop i s y 0 ∙ ap (λ (k : ℕ). getD s k 0) w)
     n (length s) 0 i (omega arith) (omega arith) e
+
+-- the same, by the place behind the closing quote
+pub body-characters : (s : List ℕ) (i e : ℕ) → stringAt s i ≡ Ends e → characters (part s i (e - 1)) ≡ charsAt s i
+body-characters s i e q = let b = string-bounds s i e q in let z : e ≡ e - 1 + 1 = omega arith in part-characters s i (e - 1) (q ∙ ap Ends z)

@@ -1,0 +1,58 @@
+-- A plain byte is a character by itself, so a run of them does not change where a string ends.
+use mathlib.Core.Path.{_≡_, refl, sym, _∙_}
+use mathlib.Core.List.{List}
+use mathlib.Core.Bool.{true, false, not, _&&_}
+use Prim.Native.Nat.{ℕ, zero, suc, _+_, _-_}
+use lib.ListN.{length}
+use lib.Dec.{leb, ltb, eqb}
+use borrow.Author.Tests.{leb-true, le-ltb, not-true}
+use Rattle.chars.specs.declared.characters.Step.the-variants.{Char, Quote}
+use Rattle.chars.specs.Bytes.{byteAt}
+use Rattle.chars.specs.Space.{runFrom, run}
+use Rattle.chars.specs.Characters.{charFrom, charAt}
+use Rattle.chars.specs.Strings.{stringAt, characters}
+use Rattle.chars.specs.Plain.{isPlain, plainEnd}
+use Rattle.model.specs.Text.{same}
+use Rattle.chars.proofs.bytes.Laws.{both, and-ways}
+use Rattle.chars.proofs.strings.Laws.{string-char, chars-char, differ}
+
+from-plain : (s : List ℕ) (i b : ℕ) → isPlain b ≡ true → charFrom s i b ≡ Char b (i + 1)
+unfolding isPlain charFrom
+from-plain s i b t =
+    and-ways (leb 0x20 b && ltb b 0x80 && not (eqb b 0x22)) (not (eqb b 0x5C)) t
+    (λ u r. and-ways (leb 0x20 b && ltb b 0x80) (not (eqb b 0x22)) u
+    (λ v q. and-ways (leb 0x20 b) (ltb b 0x80) v
+    (λ lo hi. rw (not-true (eqb b 0x22) q, not-true (eqb b 0x5C) r, le-ltb b 0x20 (leb-true 0x20 b lo), hi))))
+
+module _ (s : List ℕ) (i : ℕ) where
+  pub plain-char : isPlain (byteAt s i) ≡ true → charAt s i ≡ Char (byteAt s i) (i + 1)
+  unfolding charAt
+  plain-char t = from-plain s i (byteAt s i) t
+
+  -- the same, as it is read: b is the byte, and v its value
+  pub plain-read : {b v : ℕ} → b ≡ byteAt s i → isPlain b ≡ true → v ≡ b → charAt s i ≡ Char v (i + 1)
+  plain-read e t w = rw (w, e) (plain-char (rw e at t))
+
+  -- the closing quote, by its byte
+  pub quote-char : byteAt s i ≡ 0x22 → charAt s i ≡ Quote
+  unfolding charAt charFrom
+  quote-char e = rw e
+
+module _ (s : List ℕ) where
+  from-string : (k i : ℕ) → stringAt s (runFrom k isPlain s i) ≡ stringAt s i
+  unfolding runFrom
+  from-string zero i = refl
+  from-string (suc k) i =
+      both (λ e. stringAt s e ≡ stringAt s i) (isPlain (byteAt s i))
+      (λ t. from-string k (i + 1) ∙ sym (string-char s i (byteAt s i) (i + 1) (plain-char s i t)))
+      (λ _. refl)
+
+  -- the string goes on behind a run
+  pub plain-string : (i : ℕ) → stringAt s i ≡ stringAt s (plainEnd s i)
+  unfolding run
+  plain-string i = sym (from-string (length s - i) i)
+
+-- names that begin with different plain bytes
+module _ (a b : List ℕ) {x y : ℕ} where
+  pub plain-apart : x ≡ byteAt a 0 → y ≡ byteAt b 0 → (x ≡ y → ⊥) → isPlain x ≡ true → isPlain y ≡ true → same (characters a) (characters b) ≡ false
+  plain-apart e g n p q = differ (chars-char a 0 x 1 (plain-read a 0 e p refl)) (chars-char b 0 y 1 (plain-read b 0 g q refl)) n

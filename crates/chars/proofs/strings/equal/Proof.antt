@@ -1,0 +1,65 @@
+-- `chars::strings::equal` meets its contract. The loop's invariant: the bytes are the same at each place passed.
+use Prim.Native.Nat.{ℕ, _≤_, _<_, _-_}
+use mathlib.Core.Path.{_≡_}
+use native.Mathlib.Omega.{arith}
+use borrow.Author.Count.{below-more}
+use borrow.Author.Needs.{needs}
+use denote.Ref.{now}
+use lib.ListN.{getD}
+use lib.Seq.{ext-getD}
+use Rattle.chars.proofs.strings.Laws.{not-so}
+use Rattle.chars.proofs.strings.equal.Statement.{statement}
+use Rattle.chars.proofs.strings.equal.Tie as tie
+
+abbrev Inv-loop : tie.InvT-loop
+Inv-loop a b n i₀ i = (i ≤ n) × ((k : ℕ) → k < i → getD a k 0 ≡ getD b k 0)
+
+abbrev μ-loop : tie.MeasureT-loop
+μ-loop a b n i₀ i = n - i
+
+-- the bytes at a place are the same
+abbrev SameAt : tie.Start Inv-loop μ-loop → ℕ → Type 0
+SameAt c k = getD (now (c .args .a)) k 0 ≡ getD (now (c .args .b)) k 0
+
+returns : tie.Need-returns Inv-loop μ-loop
+returns c = not-so
+
+loop-holds : tie.Need-loop-holds Inv-loop μ-loop
+loop-holds c = search needs
+
+shared-slice-read-if2 : tie.Need-shared-slice-read-if2 Inv-loop μ-loop
+shared-slice-read-if2 c = search needs
+
+shared-slice-read-if2-2 : tie.Need-shared-slice-read-if2-2 Inv-loop μ-loop
+shared-slice-read-if2-2 c = search needs
+
+returns-2 : tie.Need-returns-2 Inv-loop μ-loop
+returns-2 c = not-so
+
+add-i : tie.Need-add-i Inv-loop μ-loop
+add-i c = search needs
+
+loop-less : tie.Need-loop-less Inv-loop μ-loop
+loop-less c = search needs
+
+loop-again : tie.Need-loop-again Inv-loop μ-loop
+loop-again c = (search needs, below-more (SameAt (c .before .before .before .before .before .before)) _ (c .before .before .before .before .loop .inv .1) (c .if2 .left))
+
+returns-3 : tie.Need-returns-3 Inv-loop μ-loop
+returns-3 c _ = ext-getD 0 _ _ (omega arith) (λ k l. c .before .loop .inv .1 k (omega arith))
+
+pub equal-spec : {M : Type 1} → statement M
+equal-spec =
+    tie.close
+    (tie.spec
+    Inv-loop
+    μ-loop
+    returns
+    loop-holds
+    shared-slice-read-if2
+    shared-slice-read-if2-2
+    returns-2
+    add-i
+    loop-less
+    loop-again
+    returns-3)

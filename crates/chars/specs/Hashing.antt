@@ -1,0 +1,32 @@
+-- For private contracts: the hash of a name's characters, by which the reader finds a repeated one.
+use Prim.Native.Nat.{ℕ, _+_, _-_, _*_, _/_, _%_}
+use mathlib.Core.List.{List, [], _∷_}
+use Rattle.chars.specs.declared.strings.Scan.{Scan}
+use Rattle.chars.specs.declared.strings.Scan.the-variants.{Ends, Stopped}
+use Rattle.chars.specs.declared.hashing.Hashed.{Hashed}
+use Rattle.chars.specs.declared.hashing.Hashed.the-variants.{Name, Broken}
+use Rattle.chars.specs.Strings.{stringAt, characters, part}
+
+-- behind one character more
+abbrev pub mix : ℕ → ℕ → ℕ
+mix h c = (h * 257 + c) % 4294967296
+
+-- 16 bits that all the others reach
+abbrev pub finish : ℕ → ℕ
+finish h = h * 2654435769 / 65536 % 65536
+
+abbrev pub hashFrom : ℕ → List ℕ → ℕ
+hashFrom h [] = finish h
+hashFrom h (c ∷ cs) = hashFrom (mix h c) cs
+
+-- the same for every spelling of the same characters
+abbrev pub hashOf : List ℕ → ℕ
+hashOf cs = hashFrom 0 cs
+
+abbrev pub hashedBy : List ℕ → ℕ → Scan → Hashed
+hashedBy s i (Ends e) = Name e (hashOf (characters (part s i (e - 1))))
+hashedBy s i (Stopped c p) = Broken c p
+
+-- the name whose characters begin at i
+unfoldable pub hashedAt : List ℕ → ℕ → Hashed
+hashedAt s i = hashedBy s i (stringAt s i)
