@@ -1,7 +1,7 @@
 -- Items with commas between, up to a closing byte: a step of them, what they take of the text, what each further item keeps.
 use mathlib.Core.Path.{_≡_, refl, sym, _∙_}
 use mathlib.Core.List.{List}
-use Prim.Native.Nat.{ℕ, zero, suc, _+_, _-_, _≤_, _<_}
+use Prim.Native.Nat.{ℕ, zero, suc, _+_, _-_, _*_, _≤_, _<_}
 use native.Mathlib.Omega.{arith}
 use lib.ListN.{length}
 use lib.Dec.{eqb}
@@ -46,10 +46,10 @@ module _ {A : Type 0} (s : List ℕ) (i : ℕ) where
 
 -- ---- items
 
--- reading one more item: what it takes of the text, and how many rows it adds
+-- reading one more item: what it takes of the text, and how many rows it adds: with the byte behind it, two bytes for each
 abbrev pub Adds : {L : Type 0} → List ℕ → (L → ℕ) → L → ℕ → Parse L → Type 0
 Adds s rows before i (refused c p) = Refusal s c p
-Adds s rows before i (parsed all e) = (i < e) × (e ≤ length s) × (rows before < rows all) × (i + rows all ≤ e + rows before)
+Adds s rows before i (parsed all e) = (i < e) × (e ≤ length s) × (rows before < rows all) × (i + 2 * rows all ≤ e + 2 * rows before + 1)
 
 pub record Reads {L : Type 0} (s : List ℕ) (rows : L → ℕ) (item : L → ℕ → Parse L) : Type 0 where
   pub adds : (before : L) (i : ℕ) → Adds s rows before i (item before i)
@@ -58,12 +58,12 @@ pub record Reads {L : Type 0} (s : List ℕ) (rows : L → ℕ) (item : L → �
 -- the same of one or more items with what closes them
 abbrev pub ItemsWithin : {L : Type 0} → List ℕ → (L → ℕ) → L → ℕ → Parse L → Type 0
 ItemsWithin s rows before i (refused c p) = Refusal s c p
-ItemsWithin s rows before i (parsed all e) = (i < e) × (e ≤ length s) × (rows before ≤ rows all) × (i + rows all < e + rows before)
+ItemsWithin s rows before i (parsed all e) = (i < e) × (e ≤ length s) × (rows before ≤ rows all) × (i + 2 * rows all ≤ e + 2 * rows before)
 
 -- and of a list from its opening byte on
 abbrev pub ListWithin : {L : Type 0} → List ℕ → (L → ℕ) → L → ℕ → Parse L → Type 0
 ListWithin s rows before i (refused c p) = Refusal s c p
-ListWithin s rows before i (parsed all e) = (i + 2 ≤ e) × (e ≤ length s) × (rows before ≤ rows all) × (i + rows all + 2 ≤ e + rows before)
+ListWithin s rows before i (parsed all e) = (i + 2 ≤ e) × (e ≤ length s) × (rows before ≤ rows all) × (i + 2 * rows all + 1 ≤ e + 2 * rows before)
 
 -- a byte that is not 0 stands in the text
 pub byte-in : (s : List ℕ) (i b : ℕ) → 0 < b → byteAt s i ≡ b → i < length s

@@ -1,4 +1,4 @@
--- The answer of Read and its table, from what was read.
+-- What the first pass tells of what was read, the answer of Read and its table.
 use mathlib.Core.Path.{_≡_, refl, sym}
 use mathlib.Core.List.{List}
 use mathlib.Core.Bool.{Bool, true, false, cond}
@@ -12,7 +12,21 @@ use Rattle.chars.specs.Parse.{Parse, refused, parsed}
 use Rattle.reader.specs.Tree.{Node}
 use Rattle.reader.specs.Rows.{size, words}
 use Rattle.reader.specs.Answer.{answer, rowsIn, answerOf, tableOf}
+use Rattle.reader.specs.Passes.{scanOf}
+use Rattle.reader.specs.declared.scanning.Scanned.the-variants.{Refused, Value}
 use Rattle.reader.proofs.Words.{stored}
+
+-- ---- what the first pass tells
+
+pub scan-refused : (o : Parse Node) {c p : ℕ} → scanOf o ≡ Refused c p → o ≡ refused c p
+scan-refused (refused c p) q = cc
+scan-refused (parsed n e) q = cc
+
+pub scan-value : (o : Parse Node) {e k : ℕ} → scanOf o ≡ Value e k → (n : Node) × (o ≡ parsed n e) × (size n ≡ k)
+scan-value (refused c p) q = absurd (let z : _≡_ {A = ℕ} 0 1 = cc in omega arith)
+scan-value (parsed n e) q = (n, cc, cc)
+
+-- ---- the answer and the table
 
 pub answer-refused : (which c p : ℕ) (t : List ℕ) → (answerOf which (length t) (refused c p) ≡ answer c which p 0) × (tableOf t (refused c p) ≡ t)
 unfolding answerOf tableOf

@@ -1,55 +1,83 @@
--- The first pass on plain values: what an answer tells of what was read, and what each way out of a loop body leaves.
+-- The first pass on plain values: what each way out of a loop body leaves, on the stack of names, in its index and among the rows that are kept.
 use mathlib.Core.Path.{_≡_, refl, sym, ap, _∙_}
-use mathlib.Core.List.{List, [], _∷_, _++_}
+use mathlib.Core.List.{List, [], _∷_, _++_, append-nil}
 use mathlib.Core.Bool.{Bool, true, false, cond}
 use Prim.Native.Nat.{ℕ, suc, _+_, _-_, _*_, _≤_, _<_}
+use native.Mathlib.Numerals.{add-one}
 use native.Mathlib.Omega.{arith}
 use types.Run.{OneOf}
 use denote.Enum.Declared.{tagOf}
-use lib.ListN.{length, take, getD, set, length-set}
+use lib.ListN.{length, take, drop, getD, set, length-set, take-append-drop}
 use lib.Dec.{ltb}
-use lib.Seq.{slice, slice-empty, take-set-le}
+use lib.Seq.{slice, slice-empty, slice-cons, take-take, take-set-le, take-set-lt, drop-set-lt, drop-append-le, getD-set-same, length-take-le}
 use Rattle.chars.specs.Bytes.{byteAt}
 use Rattle.chars.specs.Parse.{Parse, refused, parsed, then, unexpected}
 use Rattle.chars.specs.Space.{isSpace, skip}
-use Rattle.chars.specs.Tokens.{Kind, Null, tokenOf}
-use Rattle.chars.specs.Scalars.{firstOf}
+use Rattle.chars.specs.Tokens.{Kind, Null}
+use Rattle.chars.specs.Scalars.{firstOf, scalarAt}
 use Rattle.chars.specs.declared.scalars.First.{First}
 use Rattle.chars.specs.declared.scalars.First.the-variants.{Array, Object}
-use Rattle.chars.specs.declared.tokens.Token.{Token}
-use Rattle.chars.specs.declared.tokens.Token.the-variants.{Taken, Broken}
-use Rattle.chars.proofs.Facts.{run-from, run-within, first-array, first-object}
+use Rattle.chars.proofs.Facts.{run-from, run-within, first-array, first-object, scalar-bounded, hash-small}
 use Rattle.chars.proofs.scalars.First.{the-type}
+use Rattle.chars.specs.declared.hashing.Hashed.{Hashed}
+use Rattle.chars.specs.declared.hashing.Hashed.the-variants.{Name, Broken}
+use Rattle.chars.specs.Hashing.{hashOf}
 use Rattle.reader.specs.Tree.{Node, scalar, array, object, Nodes, none, addNode, Members, no-member, member, addMember}
-use Rattle.reader.specs.Rows.{size, sizes, sizesMembers}
-use Rattle.reader.specs.Grammar.{itemsAt, listAt, elementAt, arrayAt, nameAt, memberAt, objectAt, leafAt, valueAt}
-use Rattle.reader.specs.Stack.{packed, firstIn, endIn, AreNames, Stacked, Names, NameTold}
-use Rattle.reader.specs.Passes.{scanOf, Ready, Told, MemberReady, MemberScan, MemberTold}
+use Rattle.reader.specs.Rows.{row as rowOf, count, countMembers, size, sizes, sizesMembers, words, wordsAll, wordsMembers}
+use Rattle.reader.specs.Grammar.{nameOf, itemsAt, listAt, elementAt, arrayAt, nameAt, memberAt, objectAt, leafAt, valueAt}
+use Rattle.reader.specs.Packing.{firstIn}
+use Rattle.reader.specs.Stack.{nameWord, endIn, bucketOf, AreNames, Stacked, Names, Index, hashedOf, NameTold}
+use Rattle.reader.specs.Marks.{leafMark, listMark, rowIn, rowsIn}
+use Rattle.reader.specs.Passes.{scanOf, Room, Ready, LeafAfter, LeafTold, Marked, After, Told, MemberReady, MemberMarked, MemberScan, MemberTold}
 use Rattle.reader.specs.declared.scanning.Scanned.{Scanned}
 use Rattle.reader.specs.declared.scanning.Scanned.the-variants.{Refused, Value}
-use Rattle.reader.proofs.Items.{Reads, item-takes, items-refused, items-next, items-close, items-bad, list-empty, list-items, byte-in}
-use Rattle.reader.proofs.Sizes.{sizes-add, sizesMembers-add}
-use Rattle.reader.proofs.Values.{value-deep-array, value-array, value-deep-object, value-object, first-leaf, value-leaf, name-within, name-takes}
-use Rattle.reader.proofs.Values.{member-bare, member-value, element-reads, member-reads, value-takes, member-takes}
+use Rattle.reader.proofs.Items.{Reads, unexpected-both, item-takes, items-refused, items-next, items-close, items-bad, list-empty, list-items, byte-in}
+use Rattle.reader.proofs.Sizes.{size-pos, sizes-add, sizesMembers-add, count-add, countMembers-add, count-few, countMembers-few, wordsAll-add, wordsMembers-add}
+use Rattle.reader.proofs.Values.{value-deep-array, value-array, value-deep-object, value-object, first-leaf, value-leaf, leaf-parsed, name-within, name-takes}
+use Rattle.reader.proofs.Values.{member-parsed, member-bare, member-value, element-reads, member-reads, value-takes, member-takes}
+use Rattle.reader.proofs.Outcomes.{scan-refused, scan-value}
+use Rattle.reader.proofs.Marking.{leaf-row, list-row, rows-append, rows-cons, rows-none}
 use Rattle.reader.proofs.Stacks.{stacked-push, names-push, kept-below, slice-push, kept-push}
+use Rattle.reader.proofs.Indexes.{bucket-in, index-head}
 
--- ---- what an answer tells of the outcome
+-- ---- parts of a list that is written
 
-pub scan-refused : (o : Parse Node) {c p : ℕ} → scanOf o ≡ Refused c p → o ≡ refused c p
-scan-refused (refused c p) q = cc
-scan-refused (parsed n e) q = cc
+-- a part lies where nothing was written
+slice-kept : (f t : ℕ) (l₂ l : List ℕ) → take t l₂ ≡ take t l → slice f t l₂ ≡ slice f t l
+slice-kept f t l₂ l k = ap (drop f) k
 
-pub scan-value : (o : Parse Node) {e k : ℕ} → scanOf o ≡ Value e k → (n : Node) × (o ≡ parsed n e) × (size n ≡ k)
-scan-value (refused c p) q = absurd (let z : _≡_ {A = ℕ} 0 1 = cc in omega arith)
-scan-value (parsed n e) q = (n, cc, cc)
+-- two parts that meet
+slice-meet : (f m t : ℕ) (l : List ℕ) → f ≤ m → m ≤ t → t ≤ length l → slice f t l ≡ slice f m l ++ slice m t l
+slice-meet f m t l a b c =
+    let w : f ≤ length (take m (take t l)) = omega (arith, length-take-le m (take t l) (omega (arith, length-take-le t l c))) in
+    ap (drop f) (sym (take-append-drop m (take t l)))
+    ∙ drop-append-le f (take m (take t l)) (drop m (take t l)) w
+    ∙ ap (λ (y : List ℕ). drop f y ++ slice m t l) (take-take m t l b)
 
-pub token-broken : (o : Parse Kind) {c p : ℕ} → tokenOf o ≡ Broken c p → o ≡ refused c p
-token-broken (refused c p) q = cc
-token-broken (parsed k e) q = cc
+-- the first of a part was written last
+slice-header : (r t x : ℕ) (l : List ℕ) → r < t → t ≤ length l → slice r t (set l r x) ≡ x ∷ slice (r + 1) t l
+slice-header r t x l a b =
+    slice-cons r t (set l r x) 0 a (omega (arith, length-set l r x))
+    ∙ ap (λ (y : ℕ). y ∷ slice (suc r) t (set l r x)) (getD-set-same l r x 0 (omega arith))
+    ∙ ap (λ (ys : List ℕ). x ∷ ys) (ap (drop (suc r)) (take-set-lt t l r x a) ∙ drop-set-lt (suc r) (take t l) r x (omega arith))
+    ∙ rw add-one
 
-pub token-taken : (o : Parse Kind) {k e : ℕ} → tokenOf o ≡ Taken k e → (n : Kind) × (o ≡ parsed n e)
-token-taken (refused c p) q = absurd (let z : _≡_ {A = ℕ} 0 1 = cc in omega arith)
-token-taken (parsed n f) {k} {e} q = let z : f ≡ e = cc in (n, ap (parsed n) z)
+-- ---- answers
+
+module _ {o : Parse Node} {top row : ℕ} {ns ms ns₂ hs₂ ms₂ : List ℕ} where
+  pub answer-refused : {c p : ℕ} → o ≡ refused c p → Told o (Refused c p) top row ns ms ns₂ hs₂ ms₂
+  answer-refused q = rw q (record { scan = refl; after = tt })
+
+  answer-value : (n : Node) {e k : ℕ} → o ≡ parsed n e → k ≡ size n → Marked n top row ns ms ns₂ hs₂ ms₂ → Told o (Value e k) top row ns ms ns₂ hs₂ ms₂
+  answer-value n {e = e} q z h = rw q (record { scan = ap (Value e) z; after = h })
+
+  answer-bad : (s : List ℕ) (j : ℕ) {r : Scanned} → o ≡ unexpected s j → r ≡ scanOf (unexpected s j) → Told o r top row ns ms ns₂ hs₂ ms₂
+  answer-bad s j q z = rw q (record { scan = z; after = unexpected-both s j (λ x. After x top row ns ms ns₂ hs₂ ms₂) (λ c p _. tt) })
+
+  -- what is told of a value that was read
+  value-told : {r : Scanned} {e k : ℕ} → Told o r top row ns ms ns₂ hs₂ ms₂ → r ≡ Value e k
+      → (n : Node) × (o ≡ parsed n e) × (size n ≡ k) × Marked n top row ns ms ns₂ hs₂ ms₂
+  value-told h q = let v = scan-value o (sym (h .scan) ∙ q) in (v .0, v .1, v .2, rw (v .1) at (h .after))
 
 -- nothing is read behind a refusal
 unexpected-then : {A B : Type 0} (s : List ℕ) (j : ℕ) (k : A → ℕ → Parse B) → then (unexpected s j) k ≡ unexpected s j
@@ -62,133 +90,237 @@ unexpected-then {A} {B} s j k = go (ltb j (length s))
 
 -- ---- what stands between brackets
 
--- where the opening byte stands, how one more item is read, and what is made of all of them
+-- where the opening byte stands, how one more item is read, and what is made of all of them: an array (object is 0) or an object (1)
 pub record Bracket (s : List ℕ) (L : Type 0) : Type 0 where
   pub at : ℕ
   pub closing : ℕ
+  pub object : ℕ
   pub item : L → ℕ → Parse L
   pub rows : L → ℕ
+  pub kids : L → ℕ
+  pub inner : L → List ℕ
   pub node : L → ℕ → Node
   pub other : closing ≡ 0x2C → ⊥
+  pub kind : object < 2
   pub reads : Reads s rows item
+  pub few : (all : L) → kids all ≤ rows all
   pub sized : (all : L) (e : ℕ) → size (node all e) ≡ suc (rows all)
+  pub spelled : (all : L) (e : ℕ) → words (node all e) ≡ rowOf (7 + object) at e (kids all) (suc (rows all)) ++ inner all
 
 abbrev pub arrayOf : (s : List ℕ) → ℕ → ℕ → Bracket s Nodes
 arrayOf s d at = record {
   at = at;
   closing = 0x5D;
+  object = 0;
   item = elementAt (valueAt d s);
   rows = sizes;
+  kids = count;
+  inner = wordsAll;
   node = λ ns e. array at e ns;
   other = λ q. omega arith;
+  kind = omega arith;
   reads = element-reads s d;
+  few = count-few;
   sized = λ ns e. refl;
+  spelled = λ ns e. refl;
 }
 
 abbrev pub objectOf : (s : List ℕ) → ℕ → ℕ → Bracket s Members
 objectOf s d at = record {
   at = at;
   closing = 0x7D;
+  object = 1;
   item = memberAt (valueAt d s) s;
   rows = sizesMembers;
+  kids = countMembers;
+  inner = wordsMembers;
   node = λ ms e. object at e ms;
   other = λ q. omega arith;
+  kind = omega arith;
   reads = member-reads s d;
+  few = countMembers-few;
   sized = λ ms e. refl;
+  spelled = λ ms e. refl;
 }
 
 -- the opening byte stands at `at`, and x at i, behind the space after it
-pub record Opened (s ns : List ℕ) (top at i x : ℕ) : Type 0 where
-  pub ready : Ready s (length ns) top at
+pub record Opened (s ns hs ms : List ℕ) (d top row at i x : ℕ) : Type 0 where
+  pub ready : Ready s ns hs ms (d + 1) top row at
   pub opens : at < length s
   pub place : i ≡ skip s (at + 1)
   pub byte : x ≡ byteAt s i
 
--- `before` was read so far, with all rows but the first; the rest of the whole begins at i. The stack was ns₀, and is as it was below top
-pub record Along {L : Type 0} {s : List ℕ} (b : Bracket s L) (o : Parse Node) (before : L) (top : ℕ) (ns₀ ns : List ℕ) (rows i : ℕ) : Type 0 where
-  pub ready : Ready s (length ns₀) top (b .at)
+-- `before` was read so far, and its rows are kept behind the first; the rest of the whole begins at i. Below top and row all is as it was
+pub record Along {L : Type 0} {s : List ℕ} (b : Bracket s L) (o : Parse Node) (before : L) (d top row : ℕ) (ns₀ hs₀ ms₀ ns ms : List ℕ) (rows i : ℕ) : Type 0 where
+  pub ready : Ready s ns₀ hs₀ ms₀ (d + 1) top row (b .at)
   pub whole : o ≡ then (itemsAt (b .closing) (b .item) s before i) (λ all e. parsed (b .node all e) e)
   pub counted : rows ≡ suc (b .rows before)
-  pub few : rows ≤ i
-  pub below : 4 * top ≤ i
+  pub spent : b .at + 2 * b .rows before + 1 ≤ i
   pub inside : i ≤ length s
-  pub kept : take top ns ≡ take top ns₀
+  pub names : take top ns ≡ take top ns₀
+  pub below : take row ms ≡ take row ms₀
+  pub inner : rowsIn (slice (row + 1) (row + rows) ms) ≡ b .inner before
   pub long : length ns ≡ length ns₀
+  pub marked : length ms ≡ length ms₀
 
--- one more item was read, up to e
-pub record Turn {L : Type 0} {s : List ℕ} (b : Bracket s L) (o : Parse Node) (top : ℕ) (ns₀ ns : List ℕ) (rows i e more : ℕ) : Type 0 where
+-- one more item was read, up to e, and its rows are kept
+pub record Turn {L : Type 0} {s : List ℕ} (b : Bracket s L) (o : Parse Node) (d top row : ℕ) (ns₀ hs₀ ms₀ ns ms : List ℕ) (rows i e more : ℕ) : Type 0 where
   pub before : L
   pub all : L
-  pub along : Along b o before top ns₀ ns rows i
+  pub along : Along b o before d top row ns₀ hs₀ ms₀ ns ms rows i
   pub item : b .item before i ≡ parsed all e
   pub adds : b .rows all ≡ b .rows before + more
+  pub kept : b .inner all ≡ b .inner before ++ rowsIn (slice (row + rows) (row + (rows + more)) ms)
 
-module _ {s ns : List ℕ} {top at i x : ℕ} (h : Opened s ns top at i x) where
+-- the numbers of a list's mark fit, and there is a place for it
+abbrev pub ListFits : (o at end children rows r w : ℕ) → Type 0
+ListFits o at end children rows r w = ((at < end) × (end ≤ 65536) × (2 * children + o < 65536) × (rows < 65536)) × (r < w)
+
+module _ {s ns hs ms : List ℕ} {d top row at i x : ℕ} (h : Opened s ns hs ms d top row at i x) where
   pub opened-inside : 0 < x → i < length s
   opened-inside l = byte-in s i x l (sym (h .byte))
 
-  module _ {L : Type 0} (b : Bracket s L) (same : at ≡ b .at) (empty : L) (none : b .rows empty ≡ 0) where
+  module _ {L : Type 0} (b : Bracket s L) (same : at ≡ b .at) (empty : L) (none : b .rows empty ≡ 0) (nobody : b .kids empty ≡ 0) (nothing : b .inner empty ≡ []) where
     abbrev enclosed : Parse Node
     enclosed = then (listAt (b .closing) (b .item) s empty at) (λ all e. parsed (b .node all e) e)
 
-    first-close : x ≡ b .closing → Told enclosed (Value (i + 1) 1) top ns ns
-    first-close c =
-        let z : 1 ≡ size (b .node empty (i + 1)) = omega (arith, b .sized empty (i + 1)) in
-        record { scan = rw (list-empty (b .closing) (b .item) s empty at (h .place) (sym (h .byte) ∙ c)) (ap (Value (i + 1)) z); kept = refl }
+    first-fits : 0 < x → ListFits (b .object) at (i + 1) 0 1 row (length ms)
+    first-fits l =
+        let r = h .ready in
+        let j = opened-inside l in
+        let k = run-from isSpace s (at + 1) in
+        omega (arith, r .room .short, r .room .rows, r .rowed, h .place, b .kind)
 
-    first-item : (x ≡ b .closing → ⊥) → Along b enclosed empty top ns ns 1 i
+    first-close : 0 < x → x ≡ b .closing → Told enclosed (Value (i + 1) 1) top row ns ms ns hs (set ms row (listMark (b .object) at (i + 1) 0 1))
+    first-close l c =
+        let f = first-fits l in
+        let z : 1 ≡ suc (b .rows empty) = omega arith in
+        let m = listMark (b .object) at (i + 1) 0 1 in
+        let y : size (b .node empty (i + 1)) ≡ 1 = b .sized empty (i + 1) ∙ sym z in
+        answer-value (b .node empty (i + 1)) (rw (list-empty (b .closing) (b .item) s empty at (h .place) (sym (h .byte) ∙ c))) (sym y)
+        (record {
+          names = refl;
+          index = h .ready .index;
+          below = take-set-le row ms row m (omega arith);
+          rows =
+              ap (λ (k : ℕ). rowsIn (slice row (row + k) (set ms row m))) y
+              ∙ ap rowsIn (slice-header row (row + 1) m ms (omega arith) (omega (arith, f .1)) ∙ rw slice-empty)
+              ∙ rows-cons m []
+              ∙ ap (λ (ys : List ℕ). rowIn m ++ ys) rows-none
+              ∙ ap (λ (ys : List ℕ). ys ++ []) (list-row (b .object) at (i + 1) 0 1 (b .kind) (f .0 .0) (f .0 .1) (omega arith) (omega arith) (f .0 .2))
+              ∙ sym (b .spelled empty (i + 1) ∙ rw (← same, nobody, ← z, nothing));
+        })
+
+    first-item : (x ≡ b .closing → ⊥) → Along b enclosed empty d top row ns hs ms ns ms 1 i
     first-item n =
         let l = run-from isSpace s (at + 1) in
         record {
           ready = rw same at (h .ready);
           whole = rw (list-items (b .closing) (b .item) s empty at (h .place) (λ q. n (h .byte ∙ q)));
           counted = omega arith;
-          few = omega (arith, h .place);
-          below = omega (arith, h .place, h .ready .below);
+          spent = omega (arith, h .place);
           inside = omega (arith, h .place, h .opens, run-within isSpace s (at + 1) (omega (arith, h .opens)));
-          kept = refl;
+          names = refl;
+          below = refl;
+          inner = ap rowsIn (slice-empty (row + 1) ms) ∙ rows-none ∙ sym nothing;
           long = refl;
+          marked = refl;
         }
 
-module _ {L : Type 0} {s : List ℕ} {b : Bracket s L} {o : Parse Node} {before : L} {top : ℕ} {ns₀ ns : List ℕ} {rows i : ℕ} (h : Along b o before top ns₀ ns rows i) where
-  -- the stack is as it was below top
-  stays : {ns₂ : List ℕ} → take top ns₂ ≡ take top ns → length ns₂ ≡ length ns → Along b o before top ns₀ ns₂ rows i
-  stays k l = record {
+module _ {L : Type 0} {s : List ℕ} {b : Bracket s L} {o : Parse Node} {before : L} {d top row : ℕ} {ns₀ hs₀ ms₀ ns ms : List ℕ} {rows i : ℕ}
+    (h : Along b o before d top row ns₀ hs₀ ms₀ ns ms rows i) where
+  along-room : Room s ns ms
+  along-room =
+      let r = h .ready .room in
+      record { short = r .short; names = omega (arith, r .names, h .long); rows = omega (arith, r .rows, h .marked) }
+
+  -- the next item's rows have their place
+  along-rowed : 2 * (row + rows) + d ≤ i + 33
+  along-rowed = omega (arith, h .ready .rowed, h .counted, h .spent)
+
+  along-ready : {hs : List ℕ} → Index hs ns top → Ready s ns hs ms d top (row + rows) i
+  along-ready x = record {
+    room = along-room;
+    index = x;
+    named = omega (arith, h .ready .named, h .spent);
+    rowed = along-rowed;
+    inside = h .inside;
+  }
+
+  -- the stack is as it was below top, and the rows so far are kept
+  stays : {ns₂ ms₂ : List ℕ} → take top ns₂ ≡ take top ns → take (row + rows) ms₂ ≡ take (row + rows) ms → length ns₂ ≡ length ns → length ms₂ ≡ length ms
+      → Along b o before d top row ns₀ hs₀ ms₀ ns₂ ms₂ rows i
+  stays {ns₂} {ms₂} k l p q = record {
     ready = h .ready;
     whole = h .whole;
     counted = h .counted;
-    few = h .few;
-    below = h .below;
+    spent = h .spent;
     inside = h .inside;
-    kept = k ∙ h .kept;
-    long = l ∙ h .long;
+    names = k ∙ h .names;
+    below = kept-below row (row + rows) ms₂ ms (omega arith) l ∙ h .below;
+    inner = ap rowsIn (slice-kept (row + 1) (row + rows) ms₂ ms l) ∙ h .inner;
+    long = p ∙ h .long;
+    marked = q ∙ h .marked;
   }
 
-  turn-refused : {c p : ℕ} → b .item before i ≡ refused c p → Told o (Refused c p) top ns₀ ns
-  turn-refused q = record { scan = rw (h .whole, items-refused (b .reads) (b .closing) q); kept = h .kept }
+  turn-refused : {c p : ℕ} {ns₂ hs₂ ms₂ : List ℕ} → b .item before i ≡ refused c p → Told o (Refused c p) top row ns₀ ms₀ ns₂ hs₂ ms₂
+  turn-refused q = answer-refused (rw (h .whole, items-refused (b .reads) (b .closing) q))
 
-module _ {L : Type 0} {s : List ℕ} {b : Bracket s L} {o : Parse Node} {top : ℕ} {ns₀ ns : List ℕ} {rows i e more : ℕ} (t : Turn b o top ns₀ ns rows i e more) where
-  pub turn-takes : (i < e) × (e ≤ length s) × (rows + more ≤ e)
-  turn-takes = omega (arith, item-takes (b .reads) (t .item), t .adds, t .along .counted, t .along .few)
+module _ {L : Type 0} {s : List ℕ} {b : Bracket s L} {o : Parse Node} {d top row : ℕ} {ns₀ hs₀ ms₀ ns ms : List ℕ} {rows i e more : ℕ}
+    (t : Turn b o d top row ns₀ hs₀ ms₀ ns ms rows i e more) where
+  pub turn-takes : (i < e) × (e ≤ length s) × (rows + more ≤ e) × (b .at + 2 * b .rows (t .all) ≤ e) × (rows + more ≡ suc (b .rows (t .all)))
+  turn-takes = omega (arith, item-takes (b .reads) (t .item), t .adds, t .along .counted, t .along .spent)
+
+  turn-inner : row + (rows + more) ≤ length ms → rowsIn (slice (row + 1) (row + (rows + more)) ms) ≡ b .inner (t .all)
+  turn-inner l =
+      let a = t .along in
+      ap rowsIn (slice-meet (row + 1) (row + rows) (row + (rows + more)) ms (omega (arith, a .counted)) (omega arith) l)
+      ∙ rows-append (slice (row + 1) (row + rows) ms) (slice (row + rows) (row + (rows + more)) ms)
+      ∙ ap (λ (ys : List ℕ). ys ++ rowsIn (slice (row + rows) (row + (rows + more)) ms)) (a .inner)
+      ∙ sym (t .kept)
 
   -- x stands behind the item and the space after it
   module _ {j x : ℕ} (z : j ≡ skip s e) (y : x ≡ byteAt s j) where
     pub turn-inside : 0 < x → j < length s
     turn-inside l = byte-in s j x l (sym y)
 
-    pub turn-close : x ≡ b .closing → Told o (Value (j + 1) (rows + more)) top ns₀ ns
-    turn-close c =
-        let w : rows + more ≡ size (b .node (t .all) (j + 1)) = omega (arith, b .sized (t .all) (j + 1), t .adds, t .along .counted) in
-        record {
-          scan = rw (t .along .whole, items-close (b .reads) (b .closing) (t .item) z (b .other) (sym y ∙ c)) (ap (Value (j + 1)) w);
-          kept = t .along .kept;
-        }
+    -- there is room for all rows
+    turn-room : 0 < x → (row + (rows + more) ≤ length ms) × (e ≤ j)
+    turn-room l =
+        let a = t .along in
+        omega (arith, turn-takes, a .ready .rowed, along-room a .rows, run-from isSpace s e, turn-inside l)
 
-    pub turn-bad : {r : Scanned} → (x ≡ b .closing → ⊥) → (x ≡ 0x2C → ⊥) → r ≡ scanOf (unexpected s j) → Told o r top ns₀ ns
-    turn-bad m n q = record {
-      scan = q ∙ rw (t .along .whole, items-bad (b .reads) (b .closing) (t .item) z (λ w. n (y ∙ w)) (λ w. m (y ∙ w)), unexpected-then);
-      kept = t .along .kept;
-    }
+    module _ {children : ℕ} (k : children ≡ b .kids (t .all)) where
+      pub turn-fits : 0 < x → ListFits (b .object) (b .at) (j + 1) children (rows + more) row (length ms)
+      turn-fits l =
+          omega (arith, turn-takes, turn-room l, turn-inside l, t .along .ready .room .short, b .few (t .all), b .kind, k)
+
+      pub turn-close : 0 < x → x ≡ b .closing → {hs₂ : List ℕ} → Index hs₂ ns top
+          → Told o (Value (j + 1) (rows + more)) top row ns₀ ms₀ ns hs₂ (set ms row (listMark (b .object) (b .at) (j + 1) children (rows + more)))
+      turn-close l c g =
+          let f = turn-fits l in
+          let a = t .along in
+          let m = listMark (b .object) (b .at) (j + 1) children (rows + more) in
+          let u : rows + more ≡ suc (b .rows (t .all)) = turn-takes .4 in
+          let w : size (b .node (t .all) (j + 1)) ≡ rows + more = b .sized (t .all) (j + 1) ∙ sym u in
+          answer-value (b .node (t .all) (j + 1)) (rw (a .whole, items-close (b .reads) (b .closing) (t .item) z (b .other) (sym y ∙ c))) (sym w)
+          (record {
+            names = a .names;
+            index = g;
+            below = take-set-le row ms row m (omega arith) ∙ a .below;
+            rows =
+                ap (λ (n : ℕ). rowsIn (slice row (row + n) (set ms row m))) w
+                ∙ ap rowsIn (slice-header row (row + (rows + more)) m ms (omega arith) (turn-room l .0))
+                ∙ rows-cons m (slice (row + 1) (row + (rows + more)) ms)
+                ∙ ap (λ (ys : List ℕ). rowIn m ++ ys) (turn-inner (turn-room l .0))
+                ∙ ap (λ (ys : List ℕ). ys ++ b .inner (t .all))
+                (list-row (b .object) (b .at) (j + 1) children (rows + more) (b .kind) (f .0 .0) (f .0 .1) (omega arith) (f .0 .3) (f .0 .2))
+                ∙ sym (b .spelled (t .all) (j + 1) ∙ rw (← k, ← u));
+          })
+
+    pub turn-bad : {r : Scanned} {ns₂ hs₂ ms₂ : List ℕ} → (x ≡ b .closing → ⊥) → (x ≡ 0x2C → ⊥) → r ≡ scanOf (unexpected s j) → Told o r top row ns₀ ms₀ ns₂ hs₂ ms₂
+    turn-bad m n q =
+        answer-bad s j (rw (t .along .whole, items-bad (b .reads) (b .closing) (t .item) z (λ w. n (y ∙ w)) (λ w. m (y ∙ w)), unexpected-then)) q
 
     module _ (c : x ≡ 0x2C) {i₂ : ℕ} (w : i₂ ≡ skip s (j + 1)) where
       pub turn-on : (i < e) × (e < i₂) × (i₂ ≤ length s)
@@ -196,150 +328,235 @@ module _ {L : Type 0} {s : List ℕ} {b : Bracket s L} {o : Parse Node} {top : �
           let l : j < length s = turn-inside (omega arith) in
           omega (arith, turn-takes, run-from isSpace s e, run-from isSpace s (j + 1), run-within isSpace s (j + 1) (omega arith))
 
-      turn-next : Along b o (t .all) top ns₀ ns (rows + more) i₂
+      turn-next : Along b o (t .all) d top row ns₀ hs₀ ms₀ ns ms (rows + more) i₂
       turn-next =
           let a = t .along in
           record {
             ready = a .ready;
             whole = rw (a .whole, items-next (b .reads) (b .closing) (t .item) z (sym y ∙ c), ← w);
-            counted = omega (arith, t .adds, a .counted);
-            few = omega (arith, turn-takes, turn-on);
-            below = omega (arith, turn-on, a .below);
+            counted = turn-takes .4;
+            spent = omega (arith, turn-takes, turn-on);
             inside = turn-on .2;
-            kept = a .kept;
+            names = a .names;
+            below = a .below;
+            inner = turn-inner (turn-room (omega arith) .0);
             long = a .long;
+            marked = a .marked;
           }
 
 -- ---- arrays
 
 -- in an array whose bracket stands at `at`, with d more brackets allowed to open in it
-pub record InArray (s : List ℕ) (d at top : ℕ) (ns₀ ns : List ℕ) (rows i : ℕ) : Type 0 where
+pub record InArray (s : List ℕ) (d at top row : ℕ) (ns₀ hs₀ ms₀ ns hs ms : List ℕ) (rows children i : ℕ) : Type 0 where
   pub before : Nodes
-  pub along : Along (arrayOf s d at) (arrayAt (valueAt d s) s at) before top ns₀ ns rows i
+  pub along : Along (arrayOf s d at) (arrayAt (valueAt d s) s at) before d top row ns₀ hs₀ ms₀ ns ms rows i
+  pub index : Index hs ns top
+  pub kids : children ≡ count before
+  pub headed : length hs ≡ length hs₀
 
-abbrev pub ElementTurn : List ℕ → ℕ → ℕ → ℕ → List ℕ → List ℕ → ℕ → ℕ → ℕ → ℕ → Type 0
-ElementTurn s d at = Turn (arrayOf s d at) (arrayAt (valueAt d s) s at)
+-- one more element was read, up to e
+pub record ElementTurn (s : List ℕ) (d at top row : ℕ) (ns₀ hs₀ ms₀ ns hs ms : List ℕ) (rows children i e more : ℕ) : Type 0 where
+  pub turn : Turn (arrayOf s d at) (arrayAt (valueAt d s) s at) d top row ns₀ hs₀ ms₀ ns ms rows i e more
+  pub index : Index hs ns top
+  pub kids : children + 1 ≡ count (turn .all)
+  pub headed : length hs ≡ length hs₀
 
-module _ {s ns : List ℕ} {top at i x : ℕ} (d : ℕ) (h : Opened s ns top at i x) where
-  pub array-empty : x ≡ 0x5D → Told (arrayAt (valueAt d s) s at) (Value (i + 1) 1) top ns ns
-  array-empty = first-close h (arrayOf s d at) refl none refl
+module _ {s ns hs ms : List ℕ} {d top row at i x : ℕ} (h : Opened s ns hs ms d top row at i x) where
+  pub array-empty-fits : 0 < x → ListFits 0 at (i + 1) 0 1 row (length ms)
+  array-empty-fits = first-fits h (arrayOf s d at) refl none refl refl refl
 
-  pub array-first : (x ≡ 0x5D → ⊥) → InArray s d at top ns ns 1 i
-  array-first n = record { before = none; along = first-item h (arrayOf s d at) refl none refl n }
+  pub array-empty : x ≡ 0x5D → Told (arrayAt (valueAt d s) s at) (Value (i + 1) 1) top row ns ms ns hs (set ms row (listMark 0 at (i + 1) 0 1))
+  array-empty q = first-close h (arrayOf s d at) refl none refl refl refl (omega arith) q
 
-module _ {s : List ℕ} {d at top : ℕ} {ns₀ ns : List ℕ} {rows i : ℕ} (h : InArray s d at top ns₀ ns rows i) where
-  pub array-ready : Ready s (length ns) top i
-  array-ready = let a = h .along in record { short = a .ready .short; room = omega (arith, a .ready .room, a .long); below = a .below; inside = a .inside }
+  pub array-first : (x ≡ 0x5D → ⊥) → InArray s d at top row ns hs ms ns hs ms 1 0 i
+  array-first n = record { before = none; along = first-item h (arrayOf s d at) refl none refl refl refl n; index = h .ready .index; kids = refl; headed = refl }
 
-  module _ {r : Scanned} {ns₂ : List ℕ} (o : Told (valueAt d s i) r top ns ns₂) (l : length ns₂ ≡ length ns) where
-    pub array-refused : {c p : ℕ} → r ≡ Refused c p → Told (arrayAt (valueAt d s) s at) (Refused c p) top ns₀ ns₂
-    array-refused q = turn-refused (stays (h .along) (o .kept) l) (rw (scan-refused (valueAt d s i) (sym (o .scan) ∙ q)))
+module _ {s : List ℕ} {d at top row : ℕ} {ns₀ hs₀ ms₀ ns hs ms : List ℕ} {rows children i : ℕ} (h : InArray s d at top row ns₀ hs₀ ms₀ ns hs ms rows children i) where
+  pub array-ready : Ready s ns hs ms d top (row + rows) i
+  array-ready = along-ready (h .along) (h .index)
 
-    pub array-turn : {e more : ℕ} → r ≡ Value e more → ElementTurn s d at top ns₀ ns₂ rows i e more
-    array-turn q =
-        let v = scan-value (valueAt d s i) (sym (o .scan) ∙ q) in
+  module _ {r : Scanned} {ns₂ hs₂ ms₂ : List ℕ} (o : Told (valueAt d s i) r top (row + rows) ns ms ns₂ hs₂ ms₂) where
+    pub array-refused : {c p : ℕ} → r ≡ Refused c p → Told (arrayAt (valueAt d s) s at) (Refused c p) top row ns₀ ms₀ ns₂ hs₂ ms₂
+    array-refused q = turn-refused (h .along) (rw (scan-refused (valueAt d s i) (sym (o .scan) ∙ q)))
+
+    pub array-turn : length ns₂ ≡ length ns → length hs₂ ≡ length hs → length ms₂ ≡ length ms → {e more : ℕ} → r ≡ Value e more
+        → ElementTurn s d at top row ns₀ hs₀ ms₀ ns₂ hs₂ ms₂ rows children i e more
+    array-turn l g k {e} {more} q =
+        let v = value-told o q in
+        let n = v .0 in
+        let m = v .3 in
+        let w : row + rows + size n ≡ row + (rows + more) = omega (arith, v .2) in
         record {
-          before = h .before;
-          all = addNode (h .before) (v .0);
-          along = stays (h .along) (o .kept) l;
-          item = ap (λ (x : Parse Node). then x (λ n f. parsed (addNode (h .before) n) f)) (v .1);
-          adds = omega (arith, sizes-add (h .before) (v .0), v .2);
+          turn = record {
+            before = h .before;
+            all = addNode (h .before) n;
+            along = stays (h .along) (m .names) (m .below) l k;
+            item = ap (λ (x : Parse Node). then x (λ n f. parsed (addNode (h .before) n) f)) (v .1);
+            adds = omega (arith, sizes-add (h .before) n, v .2);
+            kept =
+                wordsAll-add (h .before) n
+                ∙ ap (λ (ys : List ℕ). wordsAll (h .before) ++ ys) (sym (m .rows) ∙ ap (λ (t : ℕ). rowsIn (slice (row + rows) t ms₂)) w);
+          };
+          index = m .index;
+          kids = omega (arith, h .kids, count-add (h .before) n);
+          headed = g ∙ h .headed;
         }
 
-pub array-next : {s : List ℕ} {d at top : ℕ} {ns₀ ns : List ℕ} {rows i e more j x i₂ : ℕ} → ElementTurn s d at top ns₀ ns rows i e more
-    → j ≡ skip s e → x ≡ byteAt s j → x ≡ 0x2C → i₂ ≡ skip s (j + 1) → InArray s d at top ns₀ ns (rows + more) i₂
-array-next t z y c w = record { before = t .all; along = turn-next t z y c w }
+-- children are not more than rows
+pub element-few : {s : List ℕ} {d at top row : ℕ} {ns₀ hs₀ ms₀ ns hs ms : List ℕ} {rows children i e more : ℕ}
+    → ElementTurn s d at top row ns₀ hs₀ ms₀ ns hs ms rows children i e more → children + 1 ≤ e
+element-few t = omega (arith, t .kids, count-few (t .turn .all), turn-takes (t .turn))
+
+pub array-next : {s : List ℕ} {d at top row : ℕ} {ns₀ hs₀ ms₀ ns hs ms : List ℕ} {rows children i e more j x i₂ : ℕ}
+    → ElementTurn s d at top row ns₀ hs₀ ms₀ ns hs ms rows children i e more
+    → j ≡ skip s e → x ≡ byteAt s j → x ≡ 0x2C → i₂ ≡ skip s (j + 1) → InArray s d at top row ns₀ hs₀ ms₀ ns hs ms (rows + more) (children + 1) i₂
+array-next t z y c w = record { before = t .turn .all; along = turn-next (t .turn) z y c w; index = t .index; kids = t .kids; headed = t .headed }
 
 -- ---- objects
 
 -- in an object whose brace stands at `at`, with its names on the stack from top up to count
-pub record InObject (s : List ℕ) (d at top : ℕ) (ns₀ ns : List ℕ) (rows count i : ℕ) : Type 0 where
+pub record InObject (s : List ℕ) (d at top row : ℕ) (ns₀ hs₀ ms₀ ns hs ms : List ℕ) (rows count i : ℕ) : Type 0 where
   pub before : Members
-  pub along : Along (objectOf s d at) (objectAt (valueAt d s) s at) before top ns₀ ns rows i
+  pub along : Along (objectOf s d at) (objectAt (valueAt d s) s at) before d top row ns₀ hs₀ ms₀ ns ms rows i
+  pub index : Index hs ns count
+  pub kids : count ≡ top + countMembers before
+  pub headed : length hs ≡ length hs₀
   pub stacked : Stacked (slice top count ns) before
-  pub names : Names ns top count (length s)
-  pub below : 4 * count + 1 ≤ i
+  pub names : Names s ns top count
+  pub named : 4 * count + 1 ≤ i
 
 -- one more member was read, up to e
-pub record MemberTurn (s : List ℕ) (d at top : ℕ) (ns₀ ns : List ℕ) (rows count i e more : ℕ) : Type 0 where
-  pub turn : Turn (objectOf s d at) (objectAt (valueAt d s) s at) top ns₀ ns rows i e more
+pub record MemberTurn (s : List ℕ) (d at top row : ℕ) (ns₀ hs₀ ms₀ ns hs ms : List ℕ) (rows count i e more : ℕ) : Type 0 where
+  pub turn : Turn (objectOf s d at) (objectAt (valueAt d s) s at) d top row ns₀ hs₀ ms₀ ns ms rows i e more
+  pub index : Index hs ns (count + 1)
+  pub kids : count + 1 ≡ top + countMembers (turn .all)
+  pub headed : length hs ≡ length hs₀
   pub stacked : Stacked (slice top (count + 1) ns) (turn .all)
-  pub ordered : top ≤ count
-  pub each : AreNames (length s) (slice top (count + 1) ns)
-  pub below : 4 * count + 1 ≤ i
+  pub each : AreNames s (slice top (count + 1) ns)
+  pub named : 4 * count + 1 ≤ i
   pub takes : i + 4 ≤ e
 
-module _ {s ns : List ℕ} {top at i x : ℕ} (d : ℕ) (h : Opened s ns top at i x) where
-  pub object-empty : x ≡ 0x7D → Told (objectAt (valueAt d s) s at) (Value (i + 1) 1) top ns ns
-  object-empty = first-close h (objectOf s d at) refl no-member refl
+module _ {s ns hs ms : List ℕ} {d top row at i x : ℕ} (h : Opened s ns hs ms d top row at i x) where
+  pub object-empty-fits : 0 < x → ListFits 1 at (i + 1) 0 1 row (length ms)
+  object-empty-fits = first-fits h (objectOf s d at) refl no-member refl refl refl
 
-  pub object-first : (x ≡ 0x7D → ⊥) → InObject s d at top ns ns 1 top i
+  pub object-empty : x ≡ 0x7D → Told (objectAt (valueAt d s) s at) (Value (i + 1) 1) top row ns ms ns hs (set ms row (listMark 1 at (i + 1) 0 1))
+  object-empty q = first-close h (objectOf s d at) refl no-member refl refl refl (omega arith) q
+
+  pub object-first : (x ≡ 0x7D → ⊥) → InObject s d at top row ns hs ms ns hs ms 1 top i
   object-first n =
       let r = h .ready in
       record {
         before = no-member;
-        along = first-item h (objectOf s d at) refl no-member refl n;
+        along = first-item h (objectOf s d at) refl no-member refl refl refl n;
+        index = r .index;
+        kids = omega arith;
+        headed = refl;
         stacked = rw slice-empty tt;
-        names = record { ordered = omega arith; stacked = omega (arith, r .room, r .below, r .inside); each = rw slice-empty tt };
-        below = omega (arith, r .below, h .place, run-from isSpace s (at + 1));
+        names = record { ordered = omega arith; stacked = omega (arith, r .room .names, r .named, r .inside); each = rw slice-empty tt };
+        named = omega (arith, r .named, h .place, run-from isSpace s (at + 1));
       }
 
 -- what the answer of a member tells
-module _ (before : Members) {r : Scanned} (n : ℕ) (stack : List ℕ) where
-  member-refused : (o : Parse Members) {c p : ℕ} → MemberScan before o r n stack → r ≡ Refused c p → o ≡ refused c p
+module _ (s : List ℕ) (before : Members) {r : Scanned} (top row count : ℕ) (ns ms ns₂ hs₂ ms₂ : List ℕ) where
+  member-refused : (o : Parse Members) {c p : ℕ} → MemberScan s before o r top row count ns ms ns₂ hs₂ ms₂ → r ≡ Refused c p → o ≡ refused c p
   member-refused (refused c p) h q = cc
   member-refused (parsed all e) h q = let z = sym (h .1) ∙ q in cc
 
-  member-scanned : (o : Parse Members) {e k : ℕ} → MemberScan before o r n stack → r ≡ Value e k
-      → (all : Members) × (o ≡ parsed all e) × (sizesMembers all ≡ sizesMembers before + k) × Stacked stack all × AreNames n stack
+  member-scanned : (o : Parse Members) {e k : ℕ} → MemberScan s before o r top row count ns ms ns₂ hs₂ ms₂ → r ≡ Value e k
+      → (all : Members) × (o ≡ parsed all e) × MemberMarked s before all k top row count ns ms ns₂ hs₂ ms₂
   member-scanned (refused c p) h q = absurd (let z : _≡_ {A = ℕ} 0 1 = cc in omega arith)
   member-scanned (parsed all f) {e} {k} h q =
       let z : f ≡ e = cc in
       let y : h .0 ≡ k = cc in
-      (all, ap (parsed all) z, omega arith, h .3, h .4)
+      (all, ap (parsed all) z, rw y at (h .2))
 
-module _ {s : List ℕ} {d at top : ℕ} {ns₀ ns : List ℕ} {rows count i : ℕ} (h : InObject s d at top ns₀ ns rows count i) where
-  pub object-ready : MemberReady s ns top count i
-  object-ready =
-      let a = h .along in
-      record { short = a .ready .short; room = omega (arith, a .ready .room, a .long); below = h .below; inside = a .inside; names = h .names }
+module _ {s : List ℕ} {d at top row : ℕ} {ns₀ hs₀ ms₀ ns hs ms : List ℕ} {rows count i : ℕ} (h : InObject s d at top row ns₀ hs₀ ms₀ ns hs ms rows count i) where
+  pub object-ready : MemberReady s ns hs ms d top (row + rows) count i
+  object-ready = record {
+    room = along-room (h .along);
+    index = h .index;
+    named = h .named;
+    rowed = along-rowed (h .along);
+    inside = h .along .inside;
+    names = h .names;
+  }
 
-  module _ {r : Scanned} {ns₂ : List ℕ} (o : MemberTold s d r top count i ns ns₂) (l : length ns₂ ≡ length ns) where
-    on : Along (objectOf s d at) (objectAt (valueAt d s) s at) (h .before) top ns₀ ns₂ rows i
-    on = stays (h .along) (kept-below top count ns₂ ns (h .names .ordered) (o .kept)) l
-
-    told : MemberScan (h .before) (memberAt (valueAt d s) s (h .before) i) r (length s) (slice top (count + 1) ns₂)
+  module _ {r : Scanned} {ns₂ hs₂ ms₂ : List ℕ} (o : MemberTold s d r top (row + rows) count i ns ms ns₂ hs₂ ms₂) where
+    told : MemberScan s (h .before) (memberAt (valueAt d s) s (h .before) i) r top (row + rows) count ns ms ns₂ hs₂ ms₂
     told = o .tells (h .before) (h .stacked)
 
-    pub object-refused : {c p : ℕ} → r ≡ Refused c p → Told (objectAt (valueAt d s) s at) (Refused c p) top ns₀ ns₂
-    object-refused q = turn-refused on (member-refused (h .before) (length s) (slice top (count + 1) ns₂) _ told q)
+    pub object-refused : {c p : ℕ} → r ≡ Refused c p → Told (objectAt (valueAt d s) s at) (Refused c p) top row ns₀ ms₀ ns₂ hs₂ ms₂
+    object-refused q = turn-refused (h .along) (member-refused s (h .before) top (row + rows) count ns ms ns₂ hs₂ ms₂ _ told q)
 
-    pub object-turn : {e more : ℕ} → r ≡ Value e more → MemberTurn s d at top ns₀ ns₂ rows count i e more
-    object-turn q =
-        let m = member-scanned (h .before) (length s) (slice top (count + 1) ns₂) _ told q in
+    pub object-turn : length ns₂ ≡ length ns → length hs₂ ≡ length hs → length ms₂ ≡ length ms → {e more : ℕ} → r ≡ Value e more
+        → MemberTurn s d at top row ns₀ hs₀ ms₀ ns₂ hs₂ ms₂ rows count i e more
+    object-turn l g k {e} {more} q =
+        let v = member-scanned s (h .before) top (row + rows) count ns ms ns₂ hs₂ ms₂ _ told q in
+        let m = v .2 in
+        let p = member-parsed (valueAt d s) s (h .before) i (v .1) in
+        let w : row + rows + more ≡ row + (rows + more) = omega arith in
         record {
-          turn = record { before = h .before; all = m .0; along = on; item = m .1; adds = m .2 };
-          stacked = m .3;
-          ordered = h .names .ordered;
-          each = m .4;
-          below = h .below;
-          takes = member-takes s d (h .before) i (m .1);
+          turn = record {
+            before = h .before;
+            all = v .0;
+            along = stays (h .along) (kept-below top count ns₂ ns (h .names .ordered) (m .names)) (m .below) l k;
+            item = v .1;
+            adds = m .adds;
+            kept = m .rows ∙ ap (λ (t : ℕ). wordsMembers (h .before) ++ rowsIn (slice (row + rows) t ms₂)) w;
+          };
+          index = m .index;
+          kids = omega (arith, h .kids, ap countMembers (p .added), countMembers-add (h .before) i (p .behind) (p .node));
+          headed = g ∙ h .headed;
+          stacked = m .stacked;
+          each = m .each;
+          named = h .named;
+          takes = member-takes s d (h .before) i (v .1);
         }
 
-pub object-next : {s : List ℕ} {d at top : ℕ} {ns₀ ns : List ℕ} {rows count i e more j x i₂ : ℕ} → MemberTurn s d at top ns₀ ns rows count i e more
-    → j ≡ skip s e → x ≡ byteAt s j → x ≡ 0x2C → i₂ ≡ skip s (j + 1) → InObject s d at top ns₀ ns (rows + more) (count + 1) i₂
-object-next t z y c w =
-    let b = turn-on (t .turn) z y c w in
-    let a = t .turn .along in
-    record {
-      before = t .turn .all;
-      along = turn-next (t .turn) z y c w;
-      stacked = t .stacked;
-      names = record { ordered = omega (arith, t .ordered); stacked = omega (arith, a .ready .room, a .long, t .below, t .takes); each = t .each };
-      below = omega (arith, t .below, t .takes);
-    }
+module _ {s : List ℕ} {d at top row : ℕ} {ns₀ hs₀ ms₀ ns hs ms : List ℕ} {rows count i e more : ℕ}
+    (t : MemberTurn s d at top row ns₀ hs₀ ms₀ ns hs ms rows count i e more) where
+  -- the stack has room for the names so far
+  pub member-turn-names : Names s ns top (count + 1)
+  member-turn-names =
+      let a = t .turn .along in
+      record {
+        ordered = omega (arith, t .kids);
+        stacked = omega (arith, along-room a .names, t .named, t .takes, turn-takes (t .turn));
+        each = t .each;
+      }
+
+  -- the members are those whose names are on the stack
+  pub member-turn-kids : count + 1 - top ≡ countMembers (t .turn .all)
+  member-turn-kids = omega (arith, t .kids)
+
+  pub object-next : {j x i₂ : ℕ} → j ≡ skip s e → x ≡ byteAt s j → x ≡ 0x2C → i₂ ≡ skip s (j + 1)
+      → InObject s d at top row ns₀ hs₀ ms₀ ns hs ms (rows + more) (count + 1) i₂
+  object-next z y c w =
+      let b = turn-on (t .turn) z y c w in
+      record {
+        before = t .turn .all;
+        along = turn-next (t .turn) z y c w;
+        index = t .index;
+        kids = t .kids;
+        headed = t .headed;
+        stacked = t .stacked;
+        names = member-turn-names;
+        named = omega (arith, t .named, t .takes);
+      }
 
 -- ---- members
+
+hashed-broken : (s : List ℕ) (i : ℕ) (o : Parse Kind) {c p : ℕ} → hashedOf s i o ≡ Broken c p → o ≡ refused c p
+hashed-broken s i (refused c p) q = cc
+hashed-broken s i (parsed k e) q = cc
+
+hashed-name : (s : List ℕ) (i : ℕ) (o : Parse Kind) {e h : ℕ} → hashedOf s i o ≡ Name e h → (k : Kind) × (o ≡ parsed k e) × (h ≡ hashOf (nameOf s i e))
+hashed-name s i (refused c p) q = absurd (let z : _≡_ {A = ℕ} 0 1 = cc in omega arith)
+hashed-name s i (parsed k f) {e} {h} q =
+    let z : f ≡ e = cc in
+    let y : hashOf (nameOf s i f) ≡ h = cc in
+    (k, ap (parsed k) z, sym y ∙ ap (λ (x : ℕ). hashOf (nameOf s i x)) z)
 
 -- members with the names of a stack
 members-of : List ℕ → Members
@@ -351,115 +568,175 @@ unfolding members-of
 stacked-of [] = tt
 stacked-of (x ∷ xs) = (refl, refl, stacked-of xs)
 
--- a name was read from i up to e
-pub record NameRead (s stack : List ℕ) (i e : ℕ) : Type 0 where
+-- a name was read from i up to e, with this hash
+pub record NameRead (s stack : List ℕ) (i e hash : ℕ) : Type 0 where
   pub tells : (before : Members) → Stacked stack before → (k : Kind) × (nameAt s before i ≡ parsed k e)
+  pub hashed : hash ≡ hashOf (nameOf s i e)
   pub takes : i + 2 ≤ e
   pub within : e ≤ length s
 
-module _ {s stack : List ℕ} {i : ℕ} {r : Token} (o : NameTold s stack i r) where
-  pub name-read : {k e : ℕ} → r ≡ Taken k e → NameRead s stack i e
-  name-read {k} {e} q =
+module _ {s stack : List ℕ} {i : ℕ} {r : Hashed} (o : NameTold s stack i r) where
+  pub name-read : {e h : ℕ} → r ≡ Name e h → NameRead s stack i e h
+  name-read {e} {h} q =
       let m = members-of stack in
-      let n = tells m (stacked-of stack) in
-      record { tells = tells; takes = name-takes s m i (n .1); within = (rw (n .1) at (name-within s m i)) .1 }
+      let n = reads m (stacked-of stack) in
+      record {
+        tells = λ before k. let x = reads before k in (x .0, x .1);
+        hashed = n .2;
+        takes = name-takes s m i (n .1);
+        within = (rw (n .1) at (name-within s m i)) .1;
+      }
     where
-      tells : (before : Members) → Stacked stack before → (n : Kind) × (nameAt s before i ≡ parsed n e)
-      tells before h = token-taken (nameAt s before i) (sym (o .tells before h) ∙ q)
+      reads : (before : Members) → Stacked stack before → (k : Kind) × (nameAt s before i ≡ parsed k e) × (h ≡ hashOf (nameOf s i e))
+      reads before k = hashed-name s i (nameAt s before i) (sym (o .tells before k) ∙ q)
 
--- the name's word x goes on the stack, a colon stands behind the name, and its value at k
-pub record Named (s ns : List ℕ) (top count i x k : ℕ) : Type 0 where
-  pub ready : MemberReady s ns top count i
+-- the name is on the stack ns₁ with the index hs₁, and its row is kept; a colon stands behind the name, and its value at k
+pub record Named (s ns hs ms ns₁ hs₁ ms₁ : List ℕ) (d top row count i k : ℕ) : Type 0 where
+  pub ready : MemberReady s ns hs ms d top row count i
   pub end : ℕ
-  pub name : NameRead s (slice top count ns) i end
-  pub word : x ≡ packed i end
+  pub hash : ℕ
+  pub link : ℕ
+  pub name : NameRead s (slice top count ns) i end hash
+  pub small : link < 65536
+  pub pushed : ns₁ ≡ set ns count (nameWord i end link hash)
+  pub index : Index hs₁ ns₁ (count + 1)
+  pub noted : ms₁ ≡ set ms row (leafMark 9 i end)
   pub colon : ℕ
   pub place : colon ≡ skip s end
   pub sign : byteAt s colon ≡ 0x3A
   pub starts : k ≡ skip s (colon + 1)
 
 -- a refusal is the answer of a member too
-scan-bad : (before : Members) (s : List ℕ) (j : ℕ) (r : Scanned) (n : ℕ) (stack : List ℕ) → r ≡ scanOf (unexpected s j) → MemberScan before (unexpected s j) r n stack
+scan-bad : (s : List ℕ) (before : Members) (j : ℕ) (r : Scanned) (top row count : ℕ) (ns ms ns₂ hs₂ ms₂ : List ℕ) → r ≡ scanOf (unexpected s j)
+    → MemberScan s before (unexpected s j) r top row count ns ms ns₂ hs₂ ms₂
 unfolding unexpected
-scan-bad before s j r n stack = go (ltb j (length s))
+scan-bad s before j r top row count ns ms ns₂ hs₂ ms₂ = go (ltb j (length s))
   where
-    go : (b : Bool) → r ≡ scanOf (cond b (refused 3 j) (refused 2 (length s))) → MemberScan before (cond b (refused 3 j) (refused 2 (length s))) r n stack
+    go : (b : Bool) → r ≡ scanOf (cond b (refused 3 j) (refused 2 (length s)))
+        → MemberScan s before (cond b (refused 3 j) (refused 2 (length s))) r top row count ns ms ns₂ hs₂ ms₂
     go true q = q
     go false q = q
 
 -- a byte stands behind the name and the space after it
-pub name-behind : {s stack : List ℕ} {i e j x : ℕ} → NameRead s stack i e → x ≡ byteAt s j → 0 < x → j < length s
+pub name-behind : {s stack : List ℕ} {i e hash j x : ℕ} → NameRead s stack i e hash → x ≡ byteAt s j → 0 < x → j < length s
 name-behind {s} {j = j} {x = x} _ y l = byte-in s j x l (sym y)
 
--- a name takes three bytes with its colon, so there is room for it and for those in its value
-pub named-ready : {s ns : List ℕ} {top count i x k : ℕ} → Named s ns top count i x k → (count < length ns) × Ready s (length (set ns count x)) (count + 1) k
-named-ready {s} {ns} {top} {count} {i} {x} m =
-    let r = m .ready in
-    let l : count < length ns = omega (arith, r .room, r .below, r .inside) in
-    let j = m .colon in
-    let b = byte-in s j 0x3A (omega arith) (m .sign) in (
-      l,
+-- there is room for a name's word and row
+pub name-room : {s ns hs ms stack : List ℕ} {d top row count i e hash : ℕ} → MemberReady s ns hs ms d top row count i → NameRead s stack i e hash
+    → (count < length ns) × (count < 65535) × (row < length ms) × (e ≤ 65536) × (hash < 65536)
+name-room {s} {i = i} {e = e} {hash = hash} r n =
+    let h : hash < 65536 = omega (arith, n .hashed, hash-small (nameOf s i e)) in
+    omega (arith, r .room .short, r .room .names, r .room .rows, r .named, r .rowed, r .inside, n .takes, n .within)
+
+-- the link of its word is a place on the stack
+pub name-link : {s ns hs ms stack : List ℕ} {d top row count i e hash : ℕ} → MemberReady s ns hs ms d top row count i → NameRead s stack i e hash
+    → getD hs (bucketOf (length hs) hash) 0 < 65536
+name-link r n =
+    let m = name-room r n in
+    omega (arith, m .1, index-head (r .index) (bucket-in _ _ (m .4) (r .index .some)))
+
+module _ {s ns hs ms ns₁ hs₁ ms₁ : List ℕ} {d top row count i k : ℕ} (m : Named s ns hs ms ns₁ hs₁ ms₁ d top row count i k) where
+  word : ℕ
+  word = nameWord i (m .end) (m .link) (m .hash)
+
+  -- a name takes three bytes with its colon, so there is room for it and for those in its value
+  pub named-ready : Ready s ns₁ hs₁ ms₁ d (count + 1) (row + 1) k
+  named-ready =
+      let r = m .ready in
+      let j = m .colon in
+      let b = byte-in s j 0x3A (omega arith) (m .sign) in
+      let l = ap length (m .pushed) ∙ length-set ns count (nameWord i (m .end) (m .link) (m .hash)) in
+      let p = ap length (m .noted) ∙ length-set ms row (leafMark 9 i (m .end)) in
+      let c = run-from isSpace s (m .end) in
+      let e = run-from isSpace s (j + 1) in
       record {
-        short = r .short;
-        room = omega (arith, r .room, length-set ns count x);
-        below = omega (arith, r .below, m .name .takes, m .place, m .starts, run-from isSpace s (m .end), run-from isSpace s (j + 1));
+        room = record { short = r .room .short; names = omega (arith, r .room .names, l); rows = omega (arith, r .room .rows, p) };
+        index = m .index;
+        named = omega (arith, r .named, m .name .takes, m .place, m .starts);
+        rowed = omega (arith, r .rowed, m .name .takes, m .place, m .starts);
         inside = omega (arith, m .starts, run-within isSpace s (j + 1) (omega arith));
-      },
-    )
+      }
 
 -- what each way through a member leaves: no name, no colon, no value, or all three
-module _ {s ns : List ℕ} {top count i : ℕ} (d : ℕ) where
-  pub told-unnamed : {r : Token} {c p : ℕ} → NameTold s (slice top count ns) i r → r ≡ Broken c p → MemberTold s d (Refused c p) top count i ns ns
-  told-unnamed o q = record { kept = refl; tells = λ before h. rw (token-broken (nameAt s before i) (sym (o .tells before h) ∙ q)) }
+module _ {s ns ms : List ℕ} {top row count i : ℕ} (d : ℕ) where
+  pub told-unnamed : {r : Hashed} {c p : ℕ} {ns₂ hs₂ ms₂ : List ℕ} → NameTold s (slice top count ns) i r → r ≡ Broken c p
+      → MemberTold s d (Refused c p) top row count i ns ms ns₂ hs₂ ms₂
+  told-unnamed o q = record { tells = λ before h. rw (hashed-broken s i (nameAt s before i) (sym (o .tells before h) ∙ q)) }
 
-  pub told-bare : (x : ℕ) {e j : ℕ} {r : Scanned} → NameRead s (slice top count ns) i e → j ≡ skip s e → (byteAt s j ≡ 0x3A → ⊥) → r ≡ scanOf (unexpected s j)
-      → MemberTold s d r top count i ns (set ns count x)
-  told-bare x {e} {j} {r} n z b q = record {
-    kept = take-set-le count ns count x (omega arith);
-    tells = λ before h. rw (member-bare (valueAt d s) s before i (n .tells before h .1) z b)
-        (scan-bad before s j r (length s) (slice top (count + 1) (set ns count x)) q);
+  pub told-bare : {e hash j : ℕ} {r : Scanned} {ns₂ hs₂ ms₂ : List ℕ} → NameRead s (slice top count ns) i e hash → j ≡ skip s e → (byteAt s j ≡ 0x3A → ⊥)
+      → r ≡ scanOf (unexpected s j) → MemberTold s d r top row count i ns ms ns₂ hs₂ ms₂
+  told-bare {j = j} {r = r} n z b q = record {
+    tells = λ before h. rw (member-bare (valueAt d s) s before i (n .tells before h .1) z b) (scan-bad s before j r top row count ns ms _ _ _ q);
   }
 
-  module _ {x k : ℕ} {r : Scanned} {ns₂ : List ℕ} (m : Named s ns top count i x k) (o : Told (valueAt d s k) r (count + 1) (set ns count x) ns₂) where
-    kept-word : (take count ns₂ ≡ take count ns) × (getD ns₂ count 0 ≡ x)
-    kept-word = kept-push ns ns₂ count x (named-ready m .0) (o .kept)
-
-    pushed : length ns₂ ≡ length (set ns count x) → slice top (count + 1) ns₂ ≡ slice top count ns ++ (packed i (m .end) ∷ [])
-    pushed l =
-        let b : count < length ns₂ = omega (arith, named-ready m .0, length-set ns count x) in
-        slice-push ns₂ ns top count (packed i (m .end)) (kept-word .0) (kept-word .1 ∙ m .word) (m .ready .names .ordered) b
-
+  module _ {hs ns₁ hs₁ ms₁ : List ℕ} {k : ℕ} {r : Scanned} {ns₂ hs₂ ms₂ : List ℕ} (m : Named s ns hs ms ns₁ hs₁ ms₁ d top row count i k)
+      (o : Told (valueAt d s k) r (count + 1) (row + 1) ns₁ ms₁ ns₂ hs₂ ms₂) where
     -- the member is what is made of its value
     valued : (before : Members) → Stacked (slice top count ns) before → memberAt (valueAt d s) s before i ≡ then (valueAt d s k) (λ n p. parsed (addMember before i (m .end) n) p)
     valued before h = member-value (valueAt d s) s before i (m .name .tells before h .1) (m .place) (m .sign) ∙ rw (m .starts)
 
     pub named-rows : {f rows : ℕ} → r ≡ Value f rows → rows < 65536
     named-rows q =
-        let v = scan-value (valueAt d s k) (sym (o .scan) ∙ q) in
-        omega (arith, value-takes s d (v .1), v .2, named-ready m .1 .below, m .ready .short)
+        let v = value-told o q in
+        omega (arith, value-takes s d (v .1), v .2, m .ready .room .short)
 
-    pub told-refused : {c p : ℕ} → r ≡ Refused c p → MemberTold s d (Refused c p) top count i ns ns₂
-    told-refused q = record {
-      kept = kept-word .0;
+    pub told-valueless : {c p : ℕ} → r ≡ Refused c p → MemberTold s d (Refused c p) top row count i ns ms ns₂ hs₂ ms₂
+    told-valueless q = record {
       tells = λ before h. rw (valued before h, scan-refused (valueAt d s k) (sym (o .scan) ∙ q));
     }
 
-    pub told-member : {f rows : ℕ} → length ns₂ ≡ length (set ns count x) → r ≡ Value f rows → MemberTold s d (Value f (rows + 1)) top count i ns ns₂
-    told-member {f} {rows} l q =
-        let v = scan-value (valueAt d s k) (sym (o .scan) ∙ q) in
-        let r = m .ready in
-        let e = m .end in
-        let n = v .0 in
-        record {
-          kept = kept-word .0;
-          tells = λ before h. rw (valued before h, v .1, pushed l) (
-            rows + 1,
-            refl,
-            omega (arith, sizesMembers-add before i e n, v .2),
-            stacked-push (slice top count ns) before i e n (omega (arith, r .short, r .inside)) (omega (arith, r .short, m .name .within)) h,
-            names-push (length s) (slice top count ns) i e (r .names .each) (m .name .takes) (m .name .within) (r .short),
-          );
-        }
+    module _ {f rows : ℕ} (l : length ns₂ ≡ length ns₁) (p : length ms₂ ≡ length ms₁) (q : r ≡ Value f rows) where
+      abbrev read : (n : Node) × (valueAt d s k ≡ parsed n f) × (size n ≡ rows) × Marked n (count + 1) (row + 1) ns₁ ms₁ ns₂ hs₂ ms₂
+      read = value-told o q
+
+      room : (count < length ns) × (count < 65535) × (row < length ms) × (m .end ≤ 65536) × (m .hash < 65536)
+      room = name-room (m .ready) (m .name)
+
+      kept-word : (take count ns₂ ≡ take count ns) × (getD ns₂ count 0 ≡ nameWord i (m .end) (m .link) (m .hash))
+      kept-word = kept-push ns ns₂ count (nameWord i (m .end) (m .link) (m .hash)) (room .0) (read .3 .names ∙ ap (take (count + 1)) (m .pushed))
+
+      kept-mark : (take row ms₂ ≡ take row ms) × (getD ms₂ row 0 ≡ leafMark 9 i (m .end))
+      kept-mark = kept-push ms ms₂ row (leafMark 9 i (m .end)) (room .2) (read .3 .below ∙ ap (take (row + 1)) (m .noted))
+
+      stack : slice top (count + 1) ns₂ ≡ slice top count ns ++ (nameWord i (m .end) (m .link) (m .hash) ∷ [])
+      stack =
+          let w = ap length (m .pushed) ∙ length-set ns count (nameWord i (m .end) (m .link) (m .hash)) in
+          slice-push ns₂ ns top count (nameWord i (m .end) (m .link) (m .hash)) (kept-word .0) (kept-word .1) (m .ready .names .ordered)
+          (omega (arith, room .0, w))
+
+      -- the rows of the name and of its value
+      member-rows : rowsIn (slice row (row + (rows + 1)) ms₂) ≡ rowOf 9 i (m .end) 0 1 ++ words (read .0)
+      member-rows =
+          let w = ap length (m .noted) ∙ length-set ms row (leafMark 9 i (m .end)) in
+          let v = value-takes s d (read .1) in
+          let c : row + (rows + 1) ≤ length ms₂ = omega (arith, named-ready m .rowed, named-ready m .room .rows, v, read .2) in
+          let e : row + (rows + 1) ≡ row + 1 + size (read .0) = omega (arith, read .2) in
+          ap rowsIn (slice-cons row (row + (rows + 1)) ms₂ 0 (omega arith) c)
+          ∙ rows-cons (getD ms₂ row 0) (slice (suc row) (row + (rows + 1)) ms₂)
+          ∙ ap (λ (x : ℕ). rowIn x ++ rowsIn (slice (suc row) (row + (rows + 1)) ms₂)) (kept-mark .1)
+          ∙ ap (λ (ys : List ℕ). ys ++ rowsIn (slice (suc row) (row + (rows + 1)) ms₂)) (leaf-row 9 i (m .end) (omega arith) (omega (arith, m .name .takes)) (room .3))
+          ∙ ap (λ (ys : List ℕ). rowOf 9 i (m .end) 0 1 ++ ys) (ap (λ (t : ℕ). rowsIn (slice (suc row) t ms₂)) e ∙ rw (← add-one) (read .3 .rows))
+
+      pub told-member : MemberTold s d (Value f (rows + 1)) top row count i ns ms ns₂ hs₂ ms₂
+      told-member =
+          let t = m .ready in
+          let e = m .end in
+          let n = read .0 in
+          record {
+            tells = λ before h. rw (valued before h, read .1) (
+              rows + 1,
+              refl,
+              record {
+                adds = omega (arith, sizesMembers-add before i e n, read .2);
+                stacked = rw stack (stacked-push (slice top count ns) before i e (m .link) (m .hash) n (omega (arith, m .name .takes)) (room .3) (m .small) (room .4) h);
+                each = rw stack (names-push s (slice top count ns) i e (m .link) (m .hash) (t .names .each) (m .name .takes) (m .name .within) (t .room .short) (m .small) (m .name .hashed));
+                names = kept-word .0;
+                index = read .3 .index;
+                below = kept-mark .0;
+                rows = wordsMembers-add before i e n ∙ ap (λ (ys : List ℕ). wordsMembers before ++ ys) (sym member-rows);
+              },
+            );
+          }
 
 -- ---- values
 
@@ -474,19 +751,54 @@ module _ {s : List ℕ} {i : ℕ} {f : First} (b : Begun s i f) where
   pub object-in : f ≡ Object → i < length s
   object-in q = byte-in s i 0x7B (omega arith) (first-object (byteAt s i) (sym (b .first) ∙ q))
 
-  module _ (d : ℕ) {top : ℕ} {ns : List ℕ} where
-    pub array-deep : f ≡ Array → d ≡ 0 → Told (valueAt d s i) (Refused 7 i) top ns ns
-    array-deep q n = record { scan = rw (value-deep-array d s i (sym (b .first) ∙ q) n); kept = refl }
+  module _ (d : ℕ) {top row : ℕ} {ns ms ns₂ hs₂ ms₂ : List ℕ} where
+    pub array-deep : f ≡ Array → d ≡ 0 → Told (valueAt d s i) (Refused 7 i) top row ns ms ns₂ hs₂ ms₂
+    array-deep q n = answer-refused (value-deep-array d s i (sym (b .first) ∙ q) n)
 
-    pub object-deep : f ≡ Object → d ≡ 0 → Told (valueAt d s i) (Refused 7 i) top ns ns
-    object-deep q n = record { scan = rw (value-deep-object d s i (sym (b .first) ∙ q) n); kept = refl }
+    pub object-deep : f ≡ Object → d ≡ 0 → Told (valueAt d s i) (Refused 7 i) top row ns ms ns₂ hs₂ ms₂
+    object-deep q n = answer-refused (value-deep-object d s i (sym (b .first) ∙ q) n)
 
     module _ {r : Scanned} where
-      pub told-leaf : OneOf (2 ∷ 3 ∷ 4 ∷ 5 ∷ 6 ∷ 7 ∷ []) (tagOf the-type f) → r ≡ scanOf (leafAt s i) → Told (valueAt d s i) r top ns ns
-      told-leaf h q = let n = first-leaf f h in record { scan = rw (value-leaf d s i (λ e. n .0 (b .first ∙ e)) (λ e. n .1 (b .first ∙ e))) q; kept = refl }
-
-      pub told-array : {ns₂ : List ℕ} → f ≡ Array → (d ≡ 0 → ⊥) → Told (arrayAt (valueAt (d - 1) s) s i) r top ns ns₂ → Told (valueAt d s i) r top ns ns₂
+      pub told-array : f ≡ Array → (d ≡ 0 → ⊥) → Told (arrayAt (valueAt (d - 1) s) s i) r top row ns ms ns₂ hs₂ ms₂ → Told (valueAt d s i) r top row ns ms ns₂ hs₂ ms₂
       told-array q n o = rw (value-array d s i (sym (b .first) ∙ q) n) o
 
-      pub told-object : {ns₂ : List ℕ} → f ≡ Object → (d ≡ 0 → ⊥) → Told (objectAt (valueAt (d - 1) s) s i) r top ns ns₂ → Told (valueAt d s i) r top ns ns₂
+      pub told-object : f ≡ Object → (d ≡ 0 → ⊥) → Told (objectAt (valueAt (d - 1) s) s i) r top row ns ms ns₂ hs₂ ms₂ → Told (valueAt d s i) r top row ns ms ns₂ hs₂ ms₂
       told-object q n o = rw (value-object d s i (sym (b .first) ∙ q) n) o
+
+-- the brackets that may open in an array or object
+pub opens-ready : {s ns hs ms : List ℕ} {d top row i : ℕ} → (d ≡ 0 → ⊥) → Ready s ns hs ms d top row i → Ready s ns hs ms (d - 1 + 1) top row i
+opens-ready {d = d} n r = let z : d - 1 + 1 ≡ d = omega arith in rw z r
+
+-- there is a place for the row of a value that holds no other
+pub leaf-free : {s ns hs ms : List ℕ} {d top row i : ℕ} → Ready s ns hs ms d top row i → (length s ≤ 65536) × (i < length s → row < length ms)
+leaf-free r = (r .room .short, λ l. omega (arith, r .rowed, r .room .rows))
+
+-- what is told of a value that holds no other is told of a value
+module _ {s ns hs ms : List ℕ} {d top row i : ℕ} (ms₂ : List ℕ) (p : Ready s ns hs ms d top row i) where
+  leaf-marked : (n : Node) (e : ℕ) → leafAt s i ≡ parsed n e → LeafAfter (parsed n e) row ms ms₂ → Marked n top row ns ms ns hs ms₂
+  leaf-marked n e q a =
+      let k = leaf-parsed s q in
+      let z : size n ≡ 1 = ap size (k .1) in
+      let x = a .0 in
+      record {
+        names = refl;
+        index = p .index;
+        below = ap (take row) (a .1) ∙ take-set-le row ms row x (omega arith);
+        rows =
+            rw (z, a .1)
+            (ap rowsIn (slice-header row (row + 1) x ms (omega arith) (leaf-in (k .2)) ∙ rw slice-empty) ∙ rows-cons x [] ∙ ap (λ (ys : List ℕ). rowIn x ++ ys) rows-none ∙ append-nil (rowIn x) ∙ a .2);
+      }
+    where
+      leaf-in : {k : Kind} → scalarAt s i ≡ parsed k e → row + 1 ≤ length ms
+      leaf-in v = let b : (i < e) × (e ≤ length s) = rw v at (scalar-bounded s i) in omega (arith, p .rowed, p .room .rows)
+
+  leaf-after : (o : Parse Node) → leafAt s i ≡ o → LeafAfter o row ms ms₂ → After o top row ns ms ns hs ms₂
+  leaf-after (refused c q) z a = tt
+  leaf-after (parsed n e) z a = leaf-marked n e z a
+
+  pub told-leaf : {f : First} {r : Scanned} → Begun s i f → OneOf (2 ∷ 3 ∷ 4 ∷ 5 ∷ 6 ∷ 7 ∷ []) (tagOf the-type f) → LeafTold (leafAt s i) r row ms ms₂
+      → Told (valueAt d s i) r top row ns ms ns hs ms₂
+  told-leaf {f} b h o =
+      let n = first-leaf f h in
+      rw (value-leaf d s i (λ e. n .0 (b .first ∙ e)) (λ e. n .1 (b .first ∙ e)))
+      (record { scan = o .scan; after = leaf-after (leafAt s i) refl (o .after) })

@@ -1,52 +1,76 @@
--- The stack of names on plain values: a turn of the search through it, the members that it stands for, one name more, and the name at a place.
-use mathlib.Core.Path.{_≡_, refl, sym, ap, _∙_}
+-- The stack of names on plain values: a name's word, the names that the stack holds, the members that it stands for, and one name more.
+use mathlib.Core.Path.{_≡_, refl, sym, ap, _∙_, subst}
 use mathlib.Core.List.{List, [], _∷_, _++_}
-use mathlib.Core.Bool.{true, false}
-use Prim.Native.Nat.{ℕ, _+_, _≤_, _<_}
+use mathlib.Core.Bool.{Bool, true, false}
+use Prim.Native.Nat.{ℕ, zero, suc, _+_, _-_, _≤_, _<_}
 use native.Mathlib.Numerals.{add-one}
+use native.Mathlib.Nat.{le-of-suc-le-suc}
 use native.Mathlib.Omega.{arith}
-use lib.Arith.{digits-div, digits-mod}
 use lib.ListN.{length, getD, take, set}
-use lib.Seq.{slice, slice-cons, slice-empty, take-suc, take-take, take-set-le, drop-append-le, getD-take, getD-set-same, length-take-le}
+use lib.Seq.{slice, length-slice, take-suc, take-take, take-set-le, drop-append-le, getD-take, getD-drop, getD-set-same, length-take-le}
 use Rattle.model.specs.Text.{same}
+use Rattle.model.proofs.Basics.{or-right}
+use Rattle.chars.specs.Hashing.{hashOf}
 use Rattle.reader.specs.Tree.{Node, Members, no-member, member, addMember}
 use Rattle.reader.specs.Grammar.{nameOf, repeated}
-use Rattle.reader.specs.Stack.{packed, firstIn, endIn, AreNames, Stacked, repeatedIn, Names}
+use Rattle.reader.specs.Packing.{firstIn}
+use Rattle.reader.specs.Stack.{nameWord, endIn, linkIn, hashIn, AreNames, Stacked, repeatedIn, Names}
+use Rattle.reader.proofs.Packs.{unpacked}
+use Rattle.chars.proofs.Facts.{hash-small}
 
 -- ---- a name's word
 
-pub unpacked : (f e : ℕ) → f ≤ 65536 → e ≤ 65536 → (firstIn (packed f e) ≡ f) × (endIn (packed f e) ≡ e)
-unpacked f e h g = (digits-div f (omega arith), digits-mod f (omega arith))
+pub named-word : (f e link hash : ℕ) → f < e → e ≤ 65536 → link < 65536 → hash < 65536
+    → let w = nameWord f e link hash in (firstIn w ≡ f) × (endIn w ≡ e) × (linkIn w ≡ link) × (hashIn w ≡ hash)
+named-word f e link hash l m k h = let u = unpacked f (e - 1) link hash (omega arith) (omega arith) k h in (u .0, omega arith, u .2, u .3)
 
--- ---- the search through the stack
+-- ---- the names that the stack holds
 
-module _ {ns : List ℕ} {k hi m : ℕ} (h : Names ns k hi m) (l : k < hi) where
-  abbrev first : ℕ
-  first = getD ns k 0
+-- the name of the word x has the characters n
+abbrev pub hasName : List ℕ → ℕ → List ℕ → Bool
+hasName s x n = same (nameOf s (firstIn x) (endIn x)) n
 
-  split : slice k hi ns ≡ first ∷ slice (k + 1) hi ns
-  split = rw add-one (slice-cons k hi ns 0 l (h .stacked))
+-- a word of a name with both its quotes in the text s, and its hash
+abbrev pub IsName : List ℕ → ℕ → Type 0
+IsName s x = (firstIn x + 2 ≤ endIn x) × (endIn x ≤ length s) × (hashIn x ≡ hashOf (nameOf s (firstIn x) (endIn x)))
 
-  -- the name at k has both its quotes in the text
-  pub names-here : (firstIn first + 2 ≤ endIn first) × (endIn first ≤ m)
-  names-here = let a = rw split at (h .each) in (a .0, a .1)
+are-at : (s xs : List ℕ) (i : ℕ) → i < length xs → AreNames s xs → IsName s (getD xs i 0)
+are-at s [] i l h = absurd (omega arith)
+are-at s (x ∷ xs) zero l h = (h .0, h .1, h .2)
+are-at s (x ∷ xs) (suc i) l h = are-at s xs i (le-of-suc-le-suc l) (h .3)
 
-  pub names-next : Names ns (k + 1) hi m
-  names-next = record { ordered = omega arith; stacked = h .stacked; each = (rw split at (h .each)) .2 }
-
-  -- the name at k has the characters n, or has not
-  module _ (s n : List ℕ) where
-    pub repeated-found : same (nameOf s (firstIn first) (endIn first)) n ≡ true → repeatedIn s (slice k hi ns) n ≡ true
-    unfolding repeatedIn
-    repeated-found t = rw (split, t)
-
-    pub repeated-next : same (nameOf s (firstIn first) (endIn first)) n ≡ false → repeatedIn s (slice k hi ns) n ≡ repeatedIn s (slice (k + 1) hi ns) n
-    unfolding repeatedIn
-    repeated-next t = rw (split, t)
-
-pub repeated-none : {ns : List ℕ} {k hi m : ℕ} → Names ns k hi m → hi ≤ k → (s n : List ℕ) → repeatedIn s (slice k hi ns) n ≡ false
+found-at : (s xs n : List ℕ) (i : ℕ) → i < length xs → hasName s (getD xs i 0) n ≡ true → repeatedIn s xs n ≡ true
 unfolding repeatedIn
-repeated-none {ns} {k} {hi} {m} h l s n = let z : k ≡ hi = omega arith in rw (z, slice-empty)
+found-at s [] n i l t = absurd (omega arith)
+found-at s (x ∷ xs) n zero l t = rw t
+found-at s (x ∷ xs) n (suc i) l t = or-right (hasName s x n) (repeatedIn s xs n) (found-at s xs n i (le-of-suc-le-suc l) t)
+
+none-of : (s xs n : List ℕ) → ((i : ℕ) → i < length xs → hasName s (getD xs i 0) n ≡ false) → repeatedIn s xs n ≡ false
+unfolding repeatedIn
+none-of s [] n f = refl
+none-of s (x ∷ xs) n f = rw (f zero (omega arith)) (none-of s xs n (λ i l. f (suc i) (omega arith)))
+
+module _ {s ns : List ℕ} {lo hi : ℕ} (h : Names s ns lo hi) where
+  here : (j : ℕ) → lo ≤ j → j < hi → getD (slice lo hi ns) (j - lo) 0 ≡ getD ns j 0
+  here j l m = let z : lo + (j - lo) ≡ j = omega arith in getD-drop lo (take hi ns) (j - lo) 0 ∙ rw (z, getD-take)
+
+  within : (j : ℕ) → lo ≤ j → j < hi → j - lo < length (slice lo hi ns)
+  within j l m = omega (arith, length-slice lo hi ns (h .stacked))
+
+  -- the name at j has both its quotes in the text, and its hash
+  pub names-at : (j : ℕ) → lo ≤ j → j < hi → IsName s (getD ns j 0)
+  names-at j l m = subst (IsName s) (here j l m) (are-at s (slice lo hi ns) (j - lo) (within j l m) (h .each))
+
+  -- the name at j has the characters n, or none has
+  pub repeated-found : (n : List ℕ) (j : ℕ) → lo ≤ j → j < hi → hasName s (getD ns j 0) n ≡ true → repeatedIn s (slice lo hi ns) n ≡ true
+  repeated-found n j l m t =
+      found-at s (slice lo hi ns) n (j - lo) (within j l m) (subst (λ (x : ℕ). hasName s x n ≡ true) (sym (here j l m)) t)
+
+  pub repeated-none : (n : List ℕ) → ((j : ℕ) → lo ≤ j → j < hi → hasName s (getD ns j 0) n ≡ false) → repeatedIn s (slice lo hi ns) n ≡ false
+  repeated-none n f =
+      none-of s (slice lo hi ns) n
+      (λ i l. let m : lo + i < hi = omega (arith, length-slice lo hi ns (h .stacked)) in
+      subst (λ (x : ℕ). hasName s x n ≡ false) (sym (getD-drop lo (take hi ns) i 0 ∙ getD-take hi ns (lo + i) 0 m)) (f (lo + i) (omega arith) m))
 
 -- ---- the members that the stack stands for
 
@@ -59,16 +83,19 @@ stacked-repeated s (x ∷ xs) (member f e v ms) n h = rw (h .0, h .1, stacked-re
 
 -- ---- one name more
 
-pub stacked-push : (xs : List ℕ) (before : Members) (f e : ℕ) (n : Node) → f ≤ 65536 → e ≤ 65536 → Stacked xs before
-    → Stacked (xs ++ (packed f e ∷ [])) (addMember before f e n)
-stacked-push [] no-member f e n l m h = let u = unpacked f e l m in (u .0, u .1, tt)
-stacked-push [] (member g i v ms) f e n l m h = absurd h
-stacked-push (x ∷ xs) no-member f e n l m h = absurd h
-stacked-push (x ∷ xs) (member g i v ms) f e n l m h = (h .0, h .1, stacked-push xs ms f e n l m (h .2))
+pub stacked-push : (xs : List ℕ) (before : Members) (f e link hash : ℕ) (n : Node) → f < e → e ≤ 65536 → link < 65536 → hash < 65536 → Stacked xs before
+    → Stacked (xs ++ (nameWord f e link hash ∷ [])) (addMember before f e n)
+stacked-push [] no-member f e link hash n l m k b h = let u = named-word f e link hash l m k b in (u .0, u .1, tt)
+stacked-push [] (member g i v ms) f e link hash n l m k b h = absurd h
+stacked-push (x ∷ xs) no-member f e link hash n l m k b h = absurd h
+stacked-push (x ∷ xs) (member g i v ms) f e link hash n l m k b h = (h .0, h .1, stacked-push xs ms f e link hash n l m k b (h .2))
 
-pub names-push : (m : ℕ) (xs : List ℕ) (f e : ℕ) → AreNames m xs → f + 2 ≤ e → e ≤ m → m ≤ 65536 → AreNames m (xs ++ (packed f e ∷ []))
-names-push m [] f e h l b w = let u = unpacked f e (omega arith) (omega arith) in (omega arith, omega arith, tt)
-names-push m (x ∷ xs) f e h l b w = (h .0, h .1, names-push m xs f e (h .2) l b w)
+pub names-push : (s xs : List ℕ) (f e link hash : ℕ) → AreNames s xs → f + 2 ≤ e → e ≤ length s → length s ≤ 65536 → link < 65536 → hash ≡ hashOf (nameOf s f e)
+    → AreNames s (xs ++ (nameWord f e link hash ∷ []))
+names-push s [] f e link hash h l b w k q =
+    let u = named-word f e link hash (omega arith) (omega arith) k (omega (arith, hash-small (nameOf s f e))) in
+    (omega arith, omega arith, rw (u .0, u .1, u .3) q, tt)
+names-push s (x ∷ xs) f e link hash h l b w k q = (h .0, h .1, h .2, names-push s xs f e link hash (h .3) l b w k q)
 
 -- what stands below n stands below any smaller m
 pub kept-below : (m n : ℕ) (l₂ l : List ℕ) → m ≤ n → take n l₂ ≡ take n l → take m l₂ ≡ take m l

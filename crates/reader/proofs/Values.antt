@@ -3,7 +3,7 @@ use mathlib.Core.Path.{_≡_, refl, ap, _∙_}
 use mathlib.Core.List.{List, [], _∷_}
 use mathlib.Core.Logic.{inl, inr}
 use mathlib.Core.Bool.{true, false}
-use Prim.Native.Nat.{ℕ, zero, suc, _+_, _-_, _≤_, _<_}
+use Prim.Native.Nat.{ℕ, zero, suc, _+_, _*_, _-_, _≤_, _<_}
 use native.Mathlib.Omega.{arith}
 use lib.ListN.{length, List·getD-eq-default}
 use lib.Dec.{eqb}
@@ -196,10 +196,10 @@ module _ (v : ℕ → Parse Node) where
 
 -- ---- what is taken of the text
 
--- a value has no more rows than bytes
+-- with the byte behind it, a value has two bytes for each of its rows
 abbrev pub ValueWithin : List ℕ → ℕ → Parse Node → Type 0
 ValueWithin s i (refused c p) = Refusal s c p
-ValueWithin s i (parsed n e) = (i < e) × (e ≤ length s) × (i + size n ≤ e)
+ValueWithin s i (parsed n e) = (i < e) × (e ≤ length s) × (i + 2 * size n ≤ e + 1)
 
 -- ---- names
 
@@ -321,7 +321,7 @@ module _ (s : List ℕ) (d : ℕ) where
   pub member-reads : Reads s sizesMembers (memberAt (valueAt d s) s)
   member-reads = members s (valueAt d s) (value-within s d) (value-end d s)
 
-  pub value-takes : {i e : ℕ} {n : Node} → valueAt d s i ≡ parsed n e → (i < e) × (e ≤ length s) × (i + size n ≤ e)
+  pub value-takes : {i e : ℕ} {n : Node} → valueAt d s i ≡ parsed n e → (i < e) × (e ≤ length s) × (i + 2 * size n ≤ e + 1)
   value-takes {i} q = rw q at (value-within s d i)
 
   -- a name of two bytes or more, a colon and a value

@@ -1,46 +1,107 @@
--- A whole text on plain values: what the first pass tells of it, what the second is given, and how the answer follows.
-use mathlib.Core.Path.{_≡_, sym, ap, _∙_}
+-- A whole text on plain values: what both passes are given and what they tell of it, and how the answer follows.
+use mathlib.Core.Path.{_≡_, refl, sym, ap, _∙_}
 use mathlib.Core.List.{List}
-use Prim.Native.Nat.{ℕ, _≤_, _<_, min}
+use Prim.Native.Nat.{ℕ, _+_, _*_, _≤_, _<_}
 use native.Mathlib.Omega.{arith}
-use lib.ListN.{length}
+use lib.ListN.{length, take, replicate, length-replicate}
 use lib.Seq.{sets}
 use borrow.Author.Tests.{lt-ltb, le-ltb}
 use Rattle.chars.specs.Parse.{Parse, refused, parsed}
-use Rattle.chars.specs.Space.{skip}
+use Rattle.chars.specs.Space.{isSpace, skip}
+use Rattle.chars.proofs.Facts.{run-within}
 use Rattle.reader.specs.Tree.{Node}
-use Rattle.reader.specs.Rows.{size}
+use Rattle.reader.specs.Rows.{size, words}
 use Rattle.reader.specs.Grammar.{valueAt, alone, wholeAt, readText}
-use Rattle.reader.specs.Answer.{rowsIn, answer, answerOf, tableOf}
-use Rattle.reader.specs.Passes.{scanOf, Fillable, Written, wordsOf}
+use Rattle.reader.specs.Answer.{rowsIn as roomIn, answer, answerOf, tableOf}
+use Rattle.reader.specs.Stack.{Index}
+use Rattle.reader.specs.Marks.{rowsIn}
+use Rattle.reader.specs.Passes.{scanOf, Room, Ready, Marked, Told}
 use Rattle.reader.specs.declared.answers.Answer.{Answer}
 use Rattle.reader.specs.declared.scanning.Scanned.{Scanned}
 use Rattle.reader.specs.declared.scanning.Scanned.the-variants.{Refused, Value}
 use Rattle.reader.proofs.Values.{value-takes}
-use Rattle.reader.proofs.Scans.{scan-refused, scan-value}
-use Rattle.reader.proofs.Outcomes.{answer-refused, answer-full, answer-read}
-use Rattle.reader.proofs.Induction.{read-begins}
-use Rattle.reader.proofs.Theorems.{read-code}
+use Rattle.reader.proofs.Outcomes.{scan-refused, scan-value, answer-refused, answer-full, answer-read}
+use Rattle.reader.proofs.Indexes.{index-fresh}
+use Rattle.reader.proofs.Theorems.{read-code, read-rows}
 
--- ---- the first pass: r is what it tells of the value behind the first space
-module _ (d : ℕ) (s : List ℕ) {i : ℕ} (z : i ≡ skip s 0) {r : Scanned} (q : r ≡ scanOf (valueAt d s i)) where
-  told : r ≡ scanOf (valueAt d s (skip s 0))
-  told = q ∙ ap (λ (x : ℕ). scanOf (valueAt d s x)) z
+-- ---- both passes
 
-  pub judge-refused : {c p : ℕ} → r ≡ Refused c p → Refused c p ≡ scanOf (wholeAt d s)
-  judge-refused e = let v = scan-refused (valueAt d s (skip s 0)) (sym told ∙ e) in rw v
+-- cleared room for a text by its length
+pub fresh : (s : List ℕ) (k m d : ℕ) → length s ≤ 4 * k → (0 < k) × (4 * k ≤ 65536) × (4 * k + 33 ≤ 2 * m) → d ≤ 32
+    → Room s (replicate k 0) (replicate m 0) × Index (replicate k 0) (replicate k 0) 0 × (d ≤ 32)
+fresh s k m d h g l =
+    let n = length-replicate {A = ℕ} k 0 in
+    let o = length-replicate {A = ℕ} m 0 in
+    (record { short = omega arith; names = omega arith; rows = omega arith }, index-fresh k (g .0) (omega arith) (replicate k 0), l)
 
-  module _ {e k : ℕ} (v : r ≡ Value e k) {j : ℕ} (y : j ≡ skip s e) where
-    abbrev value : (n : Node) × (valueAt d s (skip s 0) ≡ parsed n e) × (size n ≡ k)
-    value = scan-value (valueAt d s (skip s 0)) (sym told ∙ v)
+-- what is promised of both passes with the outcome o, and a table t that is t₂ afterwards
+abbrev pub Passed : Parse Node → Scanned → List ℕ → List ℕ → Type 0
+Passed o r t t₂ = (r ≡ scanOf o) × (t₂ ≡ tableOf t o)
 
-    pub judge-behind : j < length s → Refused 3 j ≡ scanOf (wholeAt d s)
-    unfolding alone
-    judge-behind l = rw (value .1, ← y, lt-ltb j (length s) l)
+refused-passed : {o : Parse Node} {c p : ℕ} (t : List ℕ) → o ≡ refused c p → Passed o (Refused c p) t t
+refused-passed {o} {c} {p} t q = rw q (refl, sym (answer-refused 0 c p t .1))
 
-    pub judge-alone : length s ≤ j → Value j k ≡ scanOf (wholeAt d s)
-    unfolding alone
-    judge-alone l = rw (value .1, ← y, le-ltb j (length s) l) (ap (Value j) (sym (value .2)))
+-- the ways of a text that begins with a value
+module _ (d : ℕ) (s : List ℕ) {n : Node} {e j : ℕ} (q : valueAt d s (skip s 0) ≡ parsed n e) (y : j ≡ skip s e) where
+  whole-behind : j < length s → wholeAt d s ≡ refused 3 j
+  unfolding alone
+  whole-behind l = rw (q, ← y, lt-ltb j (length s) l)
+
+  whole-alone : length s ≤ j → wholeAt d s ≡ parsed n j
+  unfolding alone
+  whole-alone l = rw (q, ← y, le-ltb j (length s) l)
+
+module _ (d : ℕ) (s : List ℕ) {i : ℕ} (z : i ≡ skip s 0) where
+  pub ready : {ns hs ms : List ℕ} → Room s ns ms × Index hs ns 0 × (d ≤ 32) → Ready s ns hs ms d 0 0 i
+  ready h =
+      record {
+        room = h .0;
+        index = h .1;
+        named = omega arith;
+        rowed = omega arith;
+        inside = omega (arith, run-within isSpace s 0 (omega arith));
+      }
+
+  -- r is what the first pass tells of the value behind the first space
+  module _ {r : Scanned} {ns ms ns₂ hs₂ ms₂ : List ℕ} (told : Told (valueAt d s i) r 0 0 ns ms ns₂ hs₂ ms₂) where
+    -- by the place as the definition has it
+    here : Told (valueAt d s (skip s 0)) r 0 0 ns ms ns₂ hs₂ ms₂
+    here = rw (← z) told
+
+    pub passed-refused : (t : List ℕ) {c p : ℕ} → r ≡ Refused c p → Passed (wholeAt d s) (Refused c p) t t
+    passed-refused t e =
+        let v = scan-refused (valueAt d s (skip s 0)) (sym (here .scan) ∙ e) in refused-passed {o = wholeAt d s} t (rw v)
+
+    module _ {e k : ℕ} (v : r ≡ Value e k) where
+      abbrev value : (n : Node) × (valueAt d s (skip s 0) ≡ parsed n e) × (size n ≡ k)
+      value = scan-value (valueAt d s (skip s 0)) (sym (here .scan) ∙ v)
+
+      marked : Marked (value .0) 0 0 ns ms ns₂ hs₂ ms₂
+      marked = rw (value .1) at (here .after)
+
+      -- a row takes two bytes of the text
+      pub marks-few : Room s ns ms → length ms₂ ≡ length ms → k ≤ length ms₂
+      marks-few h q = omega (arith, value-takes s d (value .1), value .2)
+
+      module _ (t : List ℕ) {j : ℕ} (y : j ≡ skip s e) where
+        pub passed-behind : j < length s → Passed (wholeAt d s) (Refused 3 j) t t
+        passed-behind l = refused-passed {o = wholeAt d s} t (whole-behind d s (value .1) y l)
+
+        module _ (l : length s ≤ j) where
+          whole : wholeAt d s ≡ parsed (value .0) j
+          whole = whole-alone d s (value .1) y l
+
+          scanned : Value j k ≡ scanOf (wholeAt d s)
+          scanned = sym (ap scanOf whole ∙ ap (Value j) (value .2))
+
+          pub passed-full : roomIn (length t) < k → Passed (wholeAt d s) (Value j k) t t
+          passed-full m = (scanned, sym (ap (tableOf t) whole ∙ answer-full 0 t (value .0) j (rw (value .2) m) .1))
+
+          pub passed-read : k ≤ roomIn (length t) → {t₂ : List ℕ} → t₂ ≡ sets t 0 (rowsIn (take k ms₂)) → Passed (wholeAt d s) (Value j k) t t₂
+          passed-read m {t₂} w =
+              let rows : 0 + size (value .0) ≡ k = omega (arith, value .2) in
+              let kept : rowsIn (take k ms₂) ≡ words (value .0) = rw rows at (marked .rows) in
+              (scanned, w ∙ ap (sets t 0) kept ∙ sym (ap (tableOf t) whole ∙ answer-read 0 t (value .0) j (rw (value .2) m) .1))
 
 -- ---- the answer and the table, within limits
 
@@ -48,61 +109,47 @@ module _ (d : ℕ) (s : List ℕ) {i : ℕ} (z : i ≡ skip s 0) {r : Scanned} (
 abbrev pub Done : ℕ → Parse Node → Answer → List ℕ → List ℕ → Type 0
 Done which o a t t₂ = (a ≡ answerOf which (length t) o) × (t₂ ≡ tableOf t o)
 
--- limits as the code counts them
-pub limited : (P : Parse Node → Type 0) (a b : ℕ) (s : List ℕ) {x y : ℕ} → x ≡ min a 65536 → y ≡ min b 32 → P (readText x y s) → P (readText (min a 65536) (min b 32) s)
-limited P a b s p q h = rw (← p, ← q) h
-
-module _ (which bytes d : ℕ) (s : List ℕ) where
-  pub done-over : {a : Answer} {t : List ℕ} → bytes < length s → a ≡ answer 1 which bytes 0 → Done which (readText bytes d s) a t t
+module _ (which bytes d : ℕ) (s t : List ℕ) where
+  pub done-over : {a : Answer} → bytes < length s → a ≡ answer 1 which bytes 0 → Done which (readText bytes d s) a t t
   unfolding readText
-  done-over {a} {t} h e = let x = answer-refused which 1 bytes t in rw (lt-ltb bytes (length s) h) (e ∙ sym (x .0), sym (x .1))
+  done-over h e = let x = answer-refused which 1 bytes t in rw (lt-ltb bytes (length s) h) (e ∙ sym (x .0), sym (x .1))
 
-  module _ (h : length s ≤ bytes) {r : Scanned} (q : r ≡ scanOf (wholeAt d s)) where
-    whole : readText bytes d s ≡ wholeAt d s
+  module _ (h : length s ≤ bytes) {r : Scanned} {t₂ : List ℕ} (passed : Passed (wholeAt d s) r t t₂) where
+    within : readText bytes d s ≡ wholeAt d s
     unfolding readText
-    whole = rw (le-ltb bytes (length s) h)
+    within = rw (le-ltb bytes (length s) h)
+
+    done : {a : Answer} (o : Parse Node) → readText bytes d s ≡ o → a ≡ answerOf which (length t) o → Done which (readText bytes d s) a t t₂
+    done o q x = (x ∙ ap (answerOf which (length t)) (sym q), passed .1 ∙ ap (tableOf t) (sym within))
 
     module _ {c p : ℕ} (e : r ≡ Refused c p) where
       outcome : readText bytes d s ≡ refused c p
-      outcome = whole ∙ scan-refused (wholeAt d s) (sym q ∙ e)
+      outcome = within ∙ scan-refused (wholeAt d s) (sym (passed .0) ∙ e)
 
       pub refused-place : p ≤ length s
       refused-place = read-code bytes d s c p outcome .2
 
-      pub done-refused : {a : Answer} {t : List ℕ} → a ≡ answer c which p 0 → Done which (readText bytes d s) a t t
-      done-refused {a} {t} x = let y = answer-refused which c p t in rw outcome (x ∙ sym (y .0), sym (y .1))
+      pub done-refused : {a : Answer} → a ≡ answer c which p 0 → Done which (readText bytes d s) a t t₂
+      done-refused x = done (refused c p) outcome (x ∙ sym (answer-refused which c p t .0))
 
     module _ {e k : ℕ} (v : r ≡ Value e k) where
       abbrev tree : (n : Node) × (wholeAt d s ≡ parsed n e) × (size n ≡ k)
-      tree = scan-value (wholeAt d s) (sym q ∙ v)
+      tree = scan-value (wholeAt d s) (sym (passed .0) ∙ v)
 
       outcome₂ : readText bytes d s ≡ parsed (tree .0) e
-      outcome₂ = whole ∙ tree .1
-
-      -- the value behind the first space is the tree
-      abbrev begins : (f : ℕ) × (valueAt d s (skip s 0) ≡ parsed (tree .0) f)
-      begins = let x = read-begins bytes d s (tree .0) e outcome₂ in (x .0, x .1 .reads)
+      outcome₂ = within ∙ tree .1
 
       pub rows-few : k ≤ length s
-      rows-few = omega (arith, value-takes s d (begins .1), tree .2)
+      rows-few = omega (arith, read-rows bytes d s (tree .0) e outcome₂, tree .2)
 
-      pub done-full : {a : Answer} {t : List ℕ} → rowsIn (length t) < k → a ≡ answer 8 which 0 k → Done which (readText bytes d s) a t t
-      done-full {a} {t} l x =
-          let y = answer-full which t (tree .0) e (rw (tree .2) l) in
-          rw outcome₂ (x ∙ ap (answer 8 which 0) (sym (tree .2)) ∙ sym (y .0), sym (y .1))
+      -- the room is that of the table afterwards, which is as long as before
+      module _ (same : length t₂ ≡ length t) {a : Answer} where
+        pub done-full : roomIn (length t₂) < k → a ≡ answer 8 which 0 k → Done which (readText bytes d s) a t t₂
+        done-full l x =
+            done (parsed (tree .0) e) outcome₂
+            (x ∙ ap (answer 8 which 0) (sym (tree .2)) ∙ sym (answer-full which t (tree .0) e (rw (← same, tree .2) l) .0))
 
-      module _ {i : ℕ} (z : i ≡ skip s 0) where
-        here : valueAt d s i ≡ parsed (tree .0) (begins .0)
-        here = ap (valueAt d s) z ∙ begins .1
-
-        pub fillable : {w : ℕ} → length s ≤ 65536 → k ≤ rowsIn w → Fillable s (valueAt d s i) 0 w
-        fillable l m = record { tree = tree .0; end = begins .0; reads = here; short = l; room = omega (arith, tree .2) }
-
-        pub done-read : {a : Answer} {t t₂ : List ℕ} {end next : ℕ} → k ≤ rowsIn (length t) → a ≡ answer 0 0 0 k
-            → Written (valueAt d s i) 0 t end next t₂ → Done which (readText bytes d s) a t t₂
-        done-read {a} {t} {t₂} m x w =
-            let y = answer-read which t (tree .0) e (rw (tree .2) m) in
-            rw outcome₂ (
-              x ∙ ap (answer 0 0 0) (sym (tree .2)) ∙ sym (y .0),
-              w .holds ∙ ap (λ (o : Parse Node). sets t 0 (wordsOf o)) here ∙ sym (y .1),
-            )
+        pub done-read : k ≤ roomIn (length t₂) → a ≡ answer 0 0 0 k → Done which (readText bytes d s) a t t₂
+        done-read l x =
+            done (parsed (tree .0) e) outcome₂
+            (x ∙ ap (answer 0 0 0) (sym (tree .2)) ∙ sym (answer-read which t (tree .0) e (rw (← same, tree .2) l) .0))

@@ -5,5 +5,7 @@ pub mod Spelling
 pub mod Rows
 pub mod Answer
 pub mod Holding
+pub mod Packing
 pub mod Stack
+pub mod Marks
 pub mod Passes

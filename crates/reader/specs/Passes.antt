@@ -1,77 +1,92 @@
 -- For private contracts: what the two passes are given, and what they answer.
-use Prim.Native.Nat.{ℕ, _+_, _*_, _≤_}
+use Prim.Native.Nat.{ℕ, _+_, _*_, _≤_, _<_}
 use mathlib.Core.Path.{_≡_}
-use mathlib.Core.List.{List, []}
-use lib.ListN.{length, take}
-use lib.Seq.{slice, sets}
+use mathlib.Core.List.{List, _++_}
+use lib.ListN.{length, take, set}
+use lib.Seq.{slice}
 use Rattle.chars.specs.Parse.{Parse, refused, parsed}
 use Rattle.reader.specs.Tree.{Node, Members}
-use Rattle.reader.specs.Rows.{rowWords, size, sizesMembers, words}
+use Rattle.reader.specs.Rows.{size, sizesMembers, words, wordsMembers}
 use Rattle.reader.specs.Grammar.{valueAt, memberAt}
-use Rattle.reader.specs.Stack.{AreNames, Stacked, Names}
+use Rattle.reader.specs.Stack.{AreNames, Stacked, Names, Index}
+use Rattle.reader.specs.Marks.{rowIn, rowsIn}
 use Rattle.reader.specs.declared.scanning.Scanned.{Scanned}
 use Rattle.reader.specs.declared.scanning.Scanned.the-variants.{Refused, Value}
-
--- ---- the first pass
 
 abbrev pub scanOf : Parse Node → Scanned
 scanOf (refused c p) = Refused c p
 scanOf (parsed n e) = Value e (size n)
 
--- a value at a place, with the stack of w names free from top on: a name takes four bytes with its colon and value
-pub record Ready (s : List ℕ) (w top i : ℕ) : Type 0 where
-  pub short : length s ≤ 65536
-  pub room : length s ≤ 4 * w
-  pub below : 4 * top ≤ i
-  pub inside : i ≤ length s
+-- ---- what the first pass is given
 
--- the answer, with the stack below top as it was
-pub record Told (o : Parse Node) (r : Scanned) (top : ℕ) (ns ns₂ : List ℕ) : Type 0 where
-  pub scan : r ≡ scanOf o
-  pub kept : take top ns₂ ≡ take top ns
+-- room for the text's names and rows: a name takes four bytes with its colon and value, and a row two, but for the brackets that are open
+pub record Room (s ns ms : List ℕ) : Type 0 where
+  pub short : length s ≤ 65536
+  pub names : length s ≤ 4 * length ns
+  pub rows : length s + 33 ≤ 2 * length ms
+
+-- a value at a place that holds no other, with a mark free at `row`
+pub record LeafReady (s ms : List ℕ) (row i : ℕ) : Type 0 where
+  pub short : length s ≤ 65536
+  pub free : i < length s → row < length ms
+
+-- a value at a place, with d more brackets allowed to open, its row free from `row` on and the stack of names from `top` on
+pub record Ready (s ns hs ms : List ℕ) (d top row i : ℕ) : Type 0 where
+  pub room : Room s ns ms
+  pub index : Index hs ns top
+  pub named : 4 * top ≤ i
+  pub rowed : 2 * row + d ≤ i + 33
+  pub inside : i ≤ length s
 
 -- a member at a place of an object whose names are on the stack from top up to count
-pub record MemberReady (s ns : List ℕ) (top count i : ℕ) : Type 0 where
-  pub short : length s ≤ 65536
-  pub room : length s ≤ 4 * length ns
-  pub below : 4 * count + 1 ≤ i
+pub record MemberReady (s ns hs ms : List ℕ) (d top row count i : ℕ) : Type 0 where
+  pub room : Room s ns ms
+  pub index : Index hs ns count
+  pub named : 4 * count + 1 ≤ i
+  pub rowed : 2 * row + d ≤ i + 33
   pub inside : i ≤ length s
-  pub names : Names ns top count (length s)
+  pub names : Names s ns top count
 
--- the member's rows and the stack with its name, where there is one
-abbrev pub MemberScan : Members → Parse Members → Scanned → ℕ → List ℕ → Type 0
-MemberScan before (refused c p) r n stack = r ≡ Refused c p
-MemberScan before (parsed all e) r n stack = (k : ℕ) × (r ≡ Value e k) × (sizesMembers all ≡ sizesMembers before + k) × Stacked stack all × AreNames n stack
+-- ---- what it answers
 
-pub record MemberTold (s : List ℕ) (depth : ℕ) (r : Scanned) (top count i : ℕ) (ns ns₂ : List ℕ) : Type 0 where
-  pub kept : take count ns₂ ≡ take count ns
-  pub tells : (before : Members) → Stacked (slice top count ns) before → MemberScan before (memberAt (valueAt depth s) s before i) r (length s) (slice top (count + 1) ns₂)
+abbrev pub LeafAfter : Parse Node → ℕ → List ℕ → List ℕ → Type 0
+LeafAfter (refused c p) row ms ms₂ = ms₂ ≡ ms
+LeafAfter (parsed n e) row ms ms₂ = (x : ℕ) × (ms₂ ≡ set ms row x) × (rowIn x ≡ words n)
 
--- ---- the second pass
+pub record LeafTold (o : Parse Node) (r : Scanned) (row : ℕ) (ms ms₂ : List ℕ) : Type 0 where
+  pub scan : r ≡ scanOf o
+  pub after : LeafAfter o row ms ms₂
 
--- where the value of an outcome ends, how many rows it has and which words; nothing of a refusal
-abbrev pub endAt : Parse Node → ℕ
-endAt (refused c p) = 0
-endAt (parsed n e) = e
+-- the value's rows stand from `row` on; below them, and on the stack below top, all is as it was
+pub record Marked (n : Node) (top row : ℕ) (ns ms ns₂ hs₂ ms₂ : List ℕ) : Type 0 where
+  pub names : take top ns₂ ≡ take top ns
+  pub index : Index hs₂ ns₂ top
+  pub below : take row ms₂ ≡ take row ms
+  pub rows : rowsIn (slice row (row + size n) ms₂) ≡ words n
 
-abbrev pub rowsOf : Parse Node → ℕ
-rowsOf (refused c p) = 0
-rowsOf (parsed n e) = size n
+-- nothing is said behind a refusal
+abbrev pub After : Parse Node → ℕ → ℕ → (ns ms ns₂ hs₂ ms₂ : List ℕ) → Type 0
+After (refused c p) top row ns ms ns₂ hs₂ ms₂ = Unit
+After (parsed n e) top row ns ms ns₂ hs₂ ms₂ = Marked n top row ns ms ns₂ hs₂ ms₂
 
-abbrev pub wordsOf : Parse Node → List ℕ
-wordsOf (refused c p) = []
-wordsOf (parsed n e) = words n
+pub record Told (o : Parse Node) (r : Scanned) (top row : ℕ) (ns ms ns₂ hs₂ ms₂ : List ℕ) : Type 0 where
+  pub scan : r ≡ scanOf o
+  pub after : After o top row ns ms ns₂ hs₂ ms₂
 
--- a value that was read, with room from row r on in a table of w words
-pub record Fillable (s : List ℕ) (o : Parse Node) (r w : ℕ) : Type 0 where
-  pub tree : Node
-  pub end : ℕ
-  pub reads : o ≡ parsed tree end
-  pub short : length s ≤ 65536
-  pub room : rowWords * (r + size tree) ≤ w
+-- the member's name is on the stack and its rows stand from `row` on, k of them
+pub record MemberMarked (s : List ℕ) (before all : Members) (k top row count : ℕ) (ns ms ns₂ hs₂ ms₂ : List ℕ) : Type 0 where
+  pub adds : sizesMembers all ≡ sizesMembers before + k
+  pub stacked : Stacked (slice top (count + 1) ns₂) all
+  pub each : AreNames s (slice top (count + 1) ns₂)
+  pub names : take count ns₂ ≡ take count ns
+  pub index : Index hs₂ ns₂ (count + 1)
+  pub below : take row ms₂ ≡ take row ms
+  pub rows : wordsMembers all ≡ wordsMembers before ++ rowsIn (slice row (row + k) ms₂)
 
--- the value's rows stand in the table from row r on; where the value and its rows end
-pub record Written (o : Parse Node) (r : ℕ) (t : List ℕ) (end next : ℕ) (t₂ : List ℕ) : Type 0 where
-  pub ends : end ≡ endAt o
-  pub goes : next ≡ r + rowsOf o
-  pub holds : t₂ ≡ sets t (rowWords * r) (wordsOf o)
+abbrev pub MemberScan : List ℕ → Members → Parse Members → Scanned → (top row count : ℕ) → (ns ms ns₂ hs₂ ms₂ : List ℕ) → Type 0
+MemberScan s before (refused c p) r top row count ns ms ns₂ hs₂ ms₂ = r ≡ Refused c p
+MemberScan s before (parsed all e) r top row count ns ms ns₂ hs₂ ms₂ = (k : ℕ) × (r ≡ Value e k) × MemberMarked s before all k top row count ns ms ns₂ hs₂ ms₂
+
+pub record MemberTold (s : List ℕ) (d : ℕ) (r : Scanned) (top row count i : ℕ) (ns ms ns₂ hs₂ ms₂ : List ℕ) : Type 0 where
+  pub tells : (before : Members) → Stacked (slice top count ns) before
+      → MemberScan s before (memberAt (valueAt d s) s before i) r top row count ns ms ns₂ hs₂ ms₂

@@ -2,7 +2,9 @@
 mod answers;
 mod filling;
 mod limits;
+mod marks;
 mod names;
+mod packing;
 mod reading;
 mod scanning;
 

@@ -1,18 +1,22 @@
-// The first pass: judges a text and touches no table.
+// The first pass: judges a text and keeps its rows, and touches no table.
+use crate::marks::leaf_mark;
+use crate::marks::list_mark;
 use crate::names::name;
-use crate::names::pack;
+use crate::names::push;
+use crate::names::release;
 use chars::First;
+use chars::Hashed;
 use chars::Token;
 use chars::begins;
 use chars::peek;
 use chars::scalar;
 use chars::skip;
 ghost use mathlib.Core.Path.{_≡_};
-ghost use Prim.Native.Nat.{_+_, _≤_, _<_};
+ghost use Prim.Native.Nat.{_+_, _<_};
 ghost use lib.ListN.{length};
 ghost use Rattle.chars.specs.Parse.{unexpected};
 ghost use Rattle.reader.specs.Grammar.{leafAt, valueAt, arrayAt, objectAt};
-ghost use Rattle.reader.specs.Passes.{scanOf, Ready, Told, MemberReady, MemberTold};
+ghost use Rattle.reader.specs.Passes.{scanOf, LeafReady, LeafTold, Ready, Told, MemberReady, MemberTold};
 
 // A value: where it ends and how many rows it has; or a refusal.
 pub enum Scanned {
@@ -35,60 +39,86 @@ fn refuse(text: &[u8], at: usize) -> Scanned
 }
 
 // The value at a place that holds no other.
-fn leaf(text: &[u8], at: usize) -> Scanned
-    ensures { λ r. ⌜ r ≡ scanOf (leafAt (now (text .entry)) at) ⌝ }
+fn leaf(text: &[u8], marks: &mut [u64], row: usize, at: usize) -> Scanned
+    requires { ⌜ LeafReady (now text) (now marks) row at ⌝ }
+    ensures { λ r. ⌜ LeafTold (leafAt (now (text .entry)) at) r row (now (marks .entry)) (now (marks .exit)) ⌝ }
 {
     match scalar(text, at) {
         Token::Broken { code, place } => Scanned::Refused { code, place },
-        Token::Taken { kind: _, end } => Scanned::Value { end, rows: 1 },
+        Token::Taken { kind, end } => {
+            marks[row] = leaf_mark(kind, at, end);
+            Scanned::Value { end, rows: 1 }
+        }
     }
 }
 
-// The value at a place, with `depth` more brackets allowed to open and the stack of names free from `top` on.
-pub fn value(text: &[u8], names: &mut [u64], top: usize, at: usize, depth: usize) -> Scanned
-    requires { ⌜ Ready (now text) (length (now names)) top at ⌝ }
-    ensures { λ r. ⌜ Told (valueAt depth (now (text .entry)) at) r top (now (names .entry)) (now (names .exit)) ⌝ }
+// The value at a place, with `depth` more brackets allowed to open, the stack of names free from `top` on and the marks from `row` on.
+pub fn value(
+    text: &[u8],
+    names: &mut [u64],
+    heads: &mut [u16],
+    marks: &mut [u64],
+    top: usize,
+    row: usize,
+    at: usize,
+    depth: usize,
+) -> Scanned
+    requires { ⌜ Ready (now text) (now names) (now heads) (now marks) depth top row at ⌝ }
+    ensures { λ r. ⌜ Told (valueAt depth (now (text .entry)) at) r top row (now (names .entry)) (now (marks .entry)) (now (names .exit)) (now (heads .exit)) (now (marks .exit)) ⌝ }
 {
     match begins(peek(text, at)) {
         First::Array => {
             if depth == 0 {
                 return Scanned::Refused { code: 7, place: at };
             }
-            array(text, names, top, at, depth - 1)
+            array(text, names, heads, marks, top, row, at, depth - 1)
         }
         First::Object => {
             if depth == 0 {
                 return Scanned::Refused { code: 7, place: at };
             }
-            object(text, names, top, at, depth - 1)
+            object(text, names, heads, marks, top, row, at, depth - 1)
         }
-        _ => leaf(text, at),
+        _ => leaf(text, marks, row, at),
     }
 }
 
 // The array whose bracket stands at a place.
-fn array(text: &[u8], names: &mut [u64], top: usize, at: usize, depth: usize) -> Scanned
-    requires { ⌜ Ready (now text) (length (now names)) top at × (at < length (now text)) ⌝ }
-    ensures { λ r. ⌜ Told (arrayAt (valueAt depth (now (text .entry))) (now (text .entry)) at) r top (now (names .entry)) (now (names .exit)) ⌝ }
+fn array(
+    text: &[u8],
+    names: &mut [u64],
+    heads: &mut [u16],
+    marks: &mut [u64],
+    top: usize,
+    row: usize,
+    at: usize,
+    depth: usize,
+) -> Scanned
+    requires { ⌜ Ready (now text) (now names) (now heads) (now marks) (depth + 1) top row at × (at < length (now text)) ⌝ }
+    ensures { λ r. ⌜ Told (arrayAt (valueAt depth (now (text .entry))) (now (text .entry)) at) r top row (now (names .entry)) (now (marks .entry)) (now (names .exit)) (now (heads .exit)) (now (marks .exit)) ⌝ }
 {
     let mut i = skip(text, at + 1);
     if peek(text, i) == b']' {
+        marks[row] = list_mark(0, at, i + 1, 0, 1);
         return Scanned::Value {
             end: i + 1,
             rows: 1,
         };
     }
     let mut rows: usize = 1;
+    let mut children: usize = 0;
     loop {
-        match value(text, names, top, i, depth) {
+        match value(text, names, heads, marks, top, row + rows, i, depth) {
             Scanned::Refused { code, place } => {
                 return Scanned::Refused { code, place };
             }
             Scanned::Value { end, rows: more } => {
                 rows += more;
+                children += 1;
                 let j = skip(text, end);
                 let b = peek(text, j);
                 if b == b']' {
+                    marks[row] = list_mark(0, at, j + 1, children, rows);
                     return Scanned::Value { end: j + 1, rows };
                 }
                 if b != b',' {
@@ -104,24 +134,28 @@ fn array(text: &[u8], names: &mut [u64], top: usize, at: usize, depth: usize) ->
 fn member(
     text: &[u8],
     names: &mut [u64],
+    heads: &mut [u16],
+    marks: &mut [u64],
     top: usize,
     count: usize,
+    row: usize,
     at: usize,
     depth: usize,
 ) -> Scanned
-    requires { ⌜ MemberReady (now text) (now names) top count at ⌝ }
-    ensures { λ r. ⌜ MemberTold (now (text .entry)) depth r top count at (now (names .entry)) (now (names .exit)) ⌝ }
+    requires { ⌜ MemberReady (now text) (now names) (now heads) (now marks) depth top row count at ⌝ }
+    ensures { λ r. ⌜ MemberTold (now (text .entry)) depth r top row count at (now (names .entry)) (now (marks .entry)) (now (names .exit)) (now (heads .exit)) (now (marks .exit)) ⌝ }
 {
-    match name(text, names, top, count, at) {
-        Token::Broken { code, place } => Scanned::Refused { code, place },
-        Token::Taken { kind: _, end: e } => {
-            names[count] = pack(at, e);
+    match name(text, names, heads, top, count, at) {
+        Hashed::Broken { code, place } => Scanned::Refused { code, place },
+        Hashed::Name { end: e, hash } => {
+            push(names, heads, count, at, e, hash as usize);
+            marks[row] = leaf_mark(9, at, e);
             let j = skip(text, e);
             if peek(text, j) != b':' {
                 return refuse(text, j);
             }
             let k = skip(text, j + 1);
-            match value(text, names, count + 1, k, depth) {
+            match value(text, names, heads, marks, count + 1, row + 1, k, depth) {
                 Scanned::Refused { code, place } => Scanned::Refused { code, place },
                 Scanned::Value { end, rows } => Scanned::Value {
                     end,
@@ -133,12 +167,22 @@ fn member(
 }
 
 // The object whose brace stands at a place.
-fn object(text: &[u8], names: &mut [u64], top: usize, at: usize, depth: usize) -> Scanned
-    requires { ⌜ Ready (now text) (length (now names)) top at × (at < length (now text)) ⌝ }
-    ensures { λ r. ⌜ Told (objectAt (valueAt depth (now (text .entry))) (now (text .entry)) at) r top (now (names .entry)) (now (names .exit)) ⌝ }
+fn object(
+    text: &[u8],
+    names: &mut [u64],
+    heads: &mut [u16],
+    marks: &mut [u64],
+    top: usize,
+    row: usize,
+    at: usize,
+    depth: usize,
+) -> Scanned
+    requires { ⌜ Ready (now text) (now names) (now heads) (now marks) (depth + 1) top row at × (at < length (now text)) ⌝ }
+    ensures { λ r. ⌜ Told (objectAt (valueAt depth (now (text .entry))) (now (text .entry)) at) r top row (now (names .entry)) (now (marks .entry)) (now (names .exit)) (now (heads .exit)) (now (marks .exit)) ⌝ }
 {
     let mut i = skip(text, at + 1);
     if peek(text, i) == b'}' {
+        marks[row] = list_mark(1, at, i + 1, 0, 1);
         return Scanned::Value {
             end: i + 1,
             rows: 1,
@@ -147,7 +191,7 @@ fn object(text: &[u8], names: &mut [u64], top: usize, at: usize, depth: usize) -
     let mut rows: usize = 1;
     let mut count = top;
     loop {
-        match member(text, names, top, count, i, depth) {
+        match member(text, names, heads, marks, top, count, row + rows, i, depth) {
             Scanned::Refused { code, place } => {
                 return Scanned::Refused { code, place };
             }
@@ -157,6 +201,8 @@ fn object(text: &[u8], names: &mut [u64], top: usize, at: usize, depth: usize) -
                 let j = skip(text, end);
                 let b = peek(text, j);
                 if b == b'}' {
+                    release(names, heads, top, count);
+                    marks[row] = list_mark(1, at, j + 1, count - top, rows);
                     return Scanned::Value { end: j + 1, rows };
                 }
                 if b != b',' {

@@ -1,39 +1,65 @@
 -- `reader::names::name` meets its contract: no quote, a string that is refused, a name that a member before has, and another name.
 use mathlib.Core.Path.{_≡_, sym, ap, _∙_}
-use Prim.Native.Nat.{_<_}
+use mathlib.Core.List.{List}
+use Prim.Native.Nat.{ℕ, _<_}
 use native.Mathlib.Omega.{arith}
 use borrow.Author.Needs.{needs}
 use lib.ListN.{length}
 use lib.Seq.{slice}
 use Rattle.chars.specs.Bytes.{byteAt}
+use Rattle.chars.specs.Parse.{unexpected}
 use Rattle.chars.specs.Tokens.{tokenOf}
 use Rattle.chars.specs.Spelling.{IsQuoted}
+use Rattle.chars.specs.declared.tokens.Token.the-variants as token
 use Rattle.chars.proofs.Facts.{in-text, quoted-bounds}
+use Rattle.chars.specs.declared.hashing.Hashed.the-variants.{Broken}
+use Rattle.chars.specs.Hashing.{hashOf}
 use Rattle.reader.specs.Tree.{Members}
-use Rattle.reader.specs.Grammar.{nameOf, repeated}
-use Rattle.reader.specs.Stack.{Stacked}
+use Rattle.reader.specs.Grammar.{nameOf, repeated, nameAt}
+use Rattle.reader.specs.Stack.{Stacked, hashedOf}
+use Rattle.reader.proofs.Items.{unexpected-both}
 use Rattle.reader.proofs.Values.{name-bare, name-stopped, name-again, name-new}
+use Rattle.chars.proofs.Facts.{name-hashed, name-broken}
 use Rattle.reader.proofs.Stacks.{stacked-repeated}
 use Rattle.reader.proofs.names.name.Statement.{statement}
 use Rattle.reader.proofs.names.name.Tie as tie
 
+-- a byte that is not allowed is always refused
+module _ (s : List ℕ) (i : ℕ) where
+  refusal-told : (c p : ℕ) → tokenOf (unexpected s i) ≡ token.Broken c p → hashedOf s i (unexpected s i) ≡ Broken c p
+  refusal-told c p = unexpected-both s i (λ o. tokenOf o ≡ token.Broken c p → hashedOf s i o ≡ Broken c p) (λ _ _ _ q. cc)
+
+  none-taken : (k e : ℕ) → tokenOf (unexpected s i) ≡ token.Taken k e → ⊥
+  none-taken k e = unexpected-both s i (λ o. tokenOf o ≡ token.Taken k e → ⊥) (λ _ _ _ q. let z : _≡_ {A = ℕ} 0 1 = cc in omega arith)
+
+-- no quote was read
+bare : (c : tie.Then1) → let a = c .before .before .before .before .before .args in
+    (before : Members) → nameAt (a .text .now) before (a .at) ≡ unexpected (a .text .now) (a .at)
+bare c before = name-bare _ before _ (λ q. c .if1 .taken (c .before .peek .ensures ∙ q))
+
 -- a quote was read
 module _ (c : tie.Else1) where
-  opened : byteAt (c .before .before .before .before .args .text .now) (c .before .before .before .before .args .at) ≡ 0x22
+  opened : byteAt (c .before .before .before .before .before .args .text .now) (c .before .before .before .before .before .args .at) ≡ 0x22
   opened = sym (c .before .peek .ensures) ∙ c .if1 .left
 
-  within : c .before .before .before .before .args .at < length (c .before .before .before .before .args .text .now)
-  within = in-text (c .before .before .before .before .args .text .now) (c .before .before .before .before .args .at) (omega (arith, opened))
+  within : c .before .before .before .before .before .args .at < length (c .before .before .before .before .before .args .text .now)
+  within = in-text (c .before .before .before .before .before .args .text .now) (c .before .before .before .before .before .args .at) (omega (arith, opened))
 
--- a string was read
-read : (c : tie.After-known-told2) → let start = c .before .before .before .before .before .before .before .before in
-    IsQuoted (start .args .text .now) (start .args .at) (c .before .end .given .0 .0)
-read c = record { opens = opened (c .before .before .before .before); ends = sym (c .before .before .before .string-end .ensures) ∙ c .before .end .given .1 }
+-- a string was read, with the hash of its characters
+module _ (c : tie.After-known-told4) where
+  abbrev start : tie.Start
+  start = c .before .before .before .before .before .before .before .before .before
+
+  hashed : let s = start .args .text .now in let i = start .args .at in let e = c .before .end2 .given .0 .0 in
+      IsQuoted s i e × (c .before .end2 .given .0 .1 .0 ≡ hashOf (nameOf s i e))
+  hashed =
+      let h = name-hashed _ _ _ _ (sym (c .before .before .before .hashed-end .ensures) ∙ c .before .end2 .given .1) in
+      (record { opens = opened (c .before .before .before .before); ends = h .0 }, h .1)
 
 -- the stack was searched for it
-searched : (c : tie.After-seen) → let start = c .before .before .before .before .before .before .before .before .before in
-    (before : Members) → Stacked (slice (start .args .lo) (start .args .hi) (start .args .names .now)) before
-    → repeated (start .args .text .now) before (nameOf (start .args .text .now) (start .args .at) (c .before .before .end .given .0 .0)) ≡ c .seen .result
+searched : (c : tie.After-seen) → let a = start (c .before) .args in
+    (before : Members) → Stacked (slice (a .lo) (a .hi) (a .names .now)) before
+    → repeated (a .text .now) before (nameOf (a .text .now) (a .at) (c .before .before .end2 .given .0 .0)) ≡ c .seen .result
 searched c before k = sym (c .seen .ensures ∙ stacked-repeated _ _ before _ k)
 
 peek-requires : tie.Need-peek-requires
@@ -42,42 +68,54 @@ peek-requires c κs = search needs
 unexpected-requires : tie.Need-unexpected-requires
 unexpected-requires c κs = search needs
 
-returns : tie.Need-returns
-returns c =
-    record { tells = λ before k. c .unexpected .ensures ∙ ap tokenOf (sym (name-bare _ before _ (λ q. c .before .if1 .taken (c .before .before .peek .ensures ∙ q)))) }
-
-add-string-end : tie.Need-add-string-end
-add-string-end c = omega (arith, within c)
-
-string-end-requires : tie.Need-string-end-requires
-string-end-requires c κs = search needs
-
 enum-known-code : tie.Need-enum-known-code
 enum-known-code c = search needs
 
 enum-known-end : tie.Need-enum-known-end
 enum-known-end c = search needs
 
-seen-requires : tie.Need-seen-requires
-seen-requires c κs = let b = quoted-bounds (read c) in (c .before .before .before .before .before .before .before .before .pre, (b .0, b .1))
-
-sub-t15 : tie.Need-sub-t15
-sub-t15 c = omega (arith, quoted-bounds (read (c .before .before)))
+returns : tie.Need-returns
+returns c =
+    let q = refusal-told _ _ _ _ (sym (c .before .before .before .unexpected .ensures) ∙ c .before .code .given .1) in
+    record { tells = λ before k. sym (rw (bare (c .before .before .before .before) before) q) }
 
 returns-2 : tie.Need-returns-2
-returns-2 c =
-    let q = read (c .before .before) in
-    record { tells = λ before k. ap tokenOf (sym (name-again _ before _ (q .opens) (q .ends) (searched (c .before) before k ∙ c .if2 .taken))) }
+returns-2 c = absurd (none-taken _ _ _ _ (sym (c .before .before .before .unexpected .ensures) ∙ c .before .end .given .1))
+
+add-hashed-end : tie.Need-add-hashed-end
+add-hashed-end c = omega (arith, within c)
+
+hashed-end-requires : tie.Need-hashed-end-requires
+hashed-end-requires c κs = search needs
+
+enum-known-code-2 : tie.Need-enum-known-code-2
+enum-known-code-2 c = search needs
+
+enum-known-end-2 : tie.Need-enum-known-end-2
+enum-known-end-2 c = search needs
+
+seen-requires : tie.Need-seen-requires
+seen-requires c κs = let h = hashed c in let b = quoted-bounds (h .0) in (start c .pre, (b .0, b .1, h .1))
+
+sub-t23 : tie.Need-sub-t23
+sub-t23 c = omega (arith, quoted-bounds (hashed (c .before .before) .0))
 
 returns-3 : tie.Need-returns-3
 returns-3 c =
-    let q = sym (c .before .before .before .string-end .ensures) ∙ c .before .code .given .1 in
-    record { tells = λ before k. ap tokenOf (sym (name-stopped _ before _ (opened (c .before .before .before .before)) q)) }
+    let q = hashed (c .before .before) .0 in
+    record { tells = λ before k. ap (hashedOf _ _) (sym (name-again _ before _ (q .opens) (q .ends) (searched (c .before) before k ∙ c .if2 .taken))) }
 
 returns-4 : tie.Need-returns-4
 returns-4 c =
-    let q = read (c .before .before) in
-    record { tells = λ before k. ap tokenOf (sym (name-new _ before _ (q .opens) (q .ends) (searched (c .before) before k ∙ c .if2 .left))) }
+    let q = name-broken _ _ _ _ (sym (c .before .before .before .hashed-end .ensures) ∙ c .before .code2 .given .1) in
+    record { tells = λ before k. ap (hashedOf _ _) (sym (name-stopped _ before _ (opened (c .before .before .before .before)) q)) }
+
+returns-5 : tie.Need-returns-5
+returns-5 c =
+    let h = hashed (c .before .before) in
+    record {
+      tells = λ before k. rw (h .1) (ap (hashedOf _ _) (sym (name-new _ before _ (h .0 .opens) (h .0 .ends) (searched (c .before) before k ∙ c .if2 .left))));
+    }
 
 pub name-spec : {M : Type 1} → statement M
 name-spec =
@@ -85,13 +123,16 @@ name-spec =
     (tie.spec
     peek-requires
     unexpected-requires
-    returns
-    add-string-end
-    string-end-requires
     enum-known-code
     enum-known-end
-    seen-requires
-    sub-t15
+    returns
     returns-2
+    add-hashed-end
+    hashed-end-requires
+    enum-known-code-2
+    enum-known-end-2
+    seen-requires
+    sub-t23
     returns-3
-    returns-4)
+    returns-4
+    returns-5)

@@ -1,10 +1,8 @@
--- `reader::scanning::leaf` meets its contract: what `scalar` answers, by its two cases.
-use mathlib.Core.Path.{sym, _∙_}
+-- `reader::scanning::leaf` meets its contract: what was read is told, and its row is kept.
+use mathlib.Core.Path.{_≡_}
+use native.Mathlib.Omega.{arith}
 use borrow.Author.Needs.{needs}
-use Rattle.chars.specs.Parse.{Parse}
-use Rattle.chars.specs.Tokens.{Kind}
-use Rattle.chars.specs.Scalars.{scalarAt}
-use Rattle.reader.proofs.Scans.{token-broken, token-taken}
+use Rattle.reader.proofs.Leaves.{leaf-broken, leaf-fits, leaf-noted}
 use Rattle.reader.proofs.scanning.leaf.Statement.{statement}
 use Rattle.reader.proofs.scanning.leaf.Tie as tie
 
@@ -14,21 +12,41 @@ scalar-requires c κs = search needs
 enum-known-code : tie.Need-enum-known-code
 enum-known-code c = search needs
 
-enum-known-end : tie.Need-enum-known-end
-enum-known-end c = search needs
+enum-known-kind : tie.Need-enum-known-kind
+enum-known-kind c = search needs
 
-abbrev read : tie.After-scalar → Parse Kind
-read c = scalarAt (c .before .before .args .text .now) (c .before .before .args .at)
+leaf-mark-requires : tie.Need-leaf-mark-requires
+leaf-mark-requires c κs = let b = c .before .before .before in leaf-fits (b .before .before .before .pre) (b .scalar .ensures) (c .before .kind .given .1) .0
+
+mul-marks : tie.Need-mul-marks
+mul-marks c =
+    let b = c .before .before .before .before in omega (arith, leaf-fits (b .before .before .before .pre) (b .scalar .ensures) (c .before .before .kind .given .1) .1)
+
+slice-write-marks : tie.Need-slice-write-marks
+slice-write-marks c =
+    let b = c .before .before .before .before in leaf-fits (b .before .before .before .pre) (b .scalar .ensures) (c .before .before .kind .given .1) .1
 
 returns : tie.Need-returns
-returns c =
-    let a = c .before .before .before in
-    rw (token-broken (read a) (sym (a .scalar .ensures) ∙ c .before .code .given .1))
+returns c = let b = c .before .before .before in leaf-broken (b .before .before .before .pre) (b .scalar .ensures) (c .before .code .given .1)
+
+same-length : tie.Need-same-length
+same-length c = search needs
 
 returns-2 : tie.Need-returns-2
 returns-2 c =
-    let a = c .before .before .before in
-    rw (token-taken (read a) (sym (a .scalar .ensures) ∙ c .before .end .given .1) .1)
+    let b = c .before .before .before .before in
+    leaf-noted (b .before .before .before .pre) (b .scalar .ensures) (c .before .before .kind .given .1) (c .leaf-mark .ensures)
 
 pub leaf-spec : {M : Type 1} → statement M
-leaf-spec = tie.close (tie.spec scalar-requires enum-known-code enum-known-end returns returns-2)
+leaf-spec =
+    tie.close
+    (tie.spec
+    scalar-requires
+    enum-known-code
+    enum-known-kind
+    leaf-mark-requires
+    mul-marks
+    slice-write-marks
+    returns
+    same-length
+    returns-2)

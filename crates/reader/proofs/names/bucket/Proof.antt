@@ -1,0 +1,15 @@
+-- `reader::names::bucket` meets its contract.
+use native.Mathlib.Nat.{le-of-lt, mul-le-mul}
+use native.Mathlib.Omega.{arith}
+use borrow.Author.Needs.{needs}
+use Rattle.reader.proofs.names.bucket.Statement.{statement}
+use Rattle.reader.proofs.names.bucket.Tie as tie
+
+mul-result : tie.Need-mul-result
+mul-result c = omega (arith, mul-le-mul (le-of-lt (c .pre .0)) (c .pre .1))
+
+returns : tie.Need-returns
+returns c = search needs
+
+pub bucket-spec : {M : Type 1} → statement M
+bucket-spec = tie.close (tie.spec mul-result returns)
