@@ -4,6 +4,7 @@ ghost use mathlib.Core.Path.{_≡_};
 ghost use Rattle.model.specs.Definition.{namedBy};
 ghost use Rattle.chars.specs.Strings.{characters};
 ghost use Rattle.schema.specs.Names.{typeName, genericOf, takesKind};
+ghost use Rattle.schema.specs.declared.names.TypeName.the-variants.{Unknown};
 
 // The type that a string names.
 pub enum TypeName {
@@ -25,8 +26,35 @@ pub enum Generic {
     Other,
 }
 
-// The type that a string names, as the bytes between its quotes.
-pub fn named_type(name: &[u8]) -> TypeName
+// One of the types that schemas name most, where the length is that of its name and the string names it; else Unknown.
+fn common_type(name: &[u8]) -> TypeName
+    ensures { λ r. ⌜ ((r ≡ Unknown → ⊥) → r ≡ typeName (namedBy (characters (now (name .entry))))) ⌝ }
+{
+    match name.len() {
+        6 => {
+            if same_name(name, b"String") {
+                return TypeName::Text;
+            }
+            TypeName::Unknown
+        }
+        7 => {
+            if same_name(name, b"Integer") {
+                return TypeName::Integer;
+            }
+            TypeName::Unknown
+        }
+        8 => {
+            if same_name(name, b"DateTime") {
+                return TypeName::DateTime;
+            }
+            TypeName::Unknown
+        }
+        _ => TypeName::Unknown,
+    }
+}
+
+// The type that a string names, however it is spelled.
+fn spelled_type(name: &[u8]) -> TypeName
     ensures { λ r. ⌜ r ≡ typeName (namedBy (characters (now (name .entry)))) ⌝ }
 {
     if same_name(name, b"JSON") {
@@ -51,6 +79,18 @@ pub fn named_type(name: &[u8]) -> TypeName
         return TypeName::DateTime;
     }
     TypeName::Unknown
+}
+
+// The type that a string names, as the bytes between its quotes.
+pub fn named_type(name: &[u8]) -> TypeName
+    ensures { λ r. ⌜ r ≡ typeName (namedBy (characters (now (name .entry)))) ⌝ }
+{
+    match common_type(name) {
+        TypeName::Text => TypeName::Text,
+        TypeName::Integer => TypeName::Integer,
+        TypeName::DateTime => TypeName::DateTime,
+        _ => spelled_type(name),
+    }
 }
 
 // The generic type that a name is.

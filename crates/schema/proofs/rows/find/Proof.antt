@@ -2,9 +2,11 @@
 use Prim.Native.Nat.{_+_, _≤_}
 use mathlib.Core.Path.{sym, _∙_}
 use lib.ListN.{length}
+use mathlib.Core.Logic.{⊎-elim}
 use denote.Ref.{now}
 use native.Mathlib.Omega.{arith}
 use borrow.Author.Needs.{needs}
+use borrow.Author.Tests.{not-false}
 use Rattle.chars.specs.Strings.{characters}
 use Rattle.schema.proofs.Trees.{as-row, in-table, MemberHere, quotes-read}
 use Rattle.schema.proofs.Finding.{Seeking, seek, seek-end, candidate, hit, missed}
@@ -52,25 +54,37 @@ cast-to c = search needs
 sub-to : tie.Need-sub-to Inv-loop μ-loop
 sub-to c = omega (arith, quotes (c .before .before))
 
+sub-apart : tie.Need-sub-apart Inv-loop μ-loop
+sub-apart c = omega (arith, quotes (c .before .before))
+
+part-apart-start : tie.Need-part-apart-start Inv-loop μ-loop
+part-apart-start c = omega (arith, quotes (c .before .before))
+
+part-apart-end : tie.Need-part-apart-end Inv-loop μ-loop
+part-apart-end c = omega (arith, quotes (c .before .before))
+
+apart-requires : tie.Need-apart-requires Inv-loop μ-loop
+apart-requires c κs = search needs
+
 sub-same-name : tie.Need-sub-same-name Inv-loop μ-loop
-sub-same-name c = omega (arith, quotes (c .before .before))
+sub-same-name c = omega (arith, quotes (c .before .before .before .before .before))
 
 part-same-name-start : tie.Need-part-same-name-start Inv-loop μ-loop
-part-same-name-start c = omega (arith, quotes (c .before .before))
+part-same-name-start c = omega (arith, quotes (c .before .before .before .before .before))
 
 part-same-name-end : tie.Need-part-same-name-end Inv-loop μ-loop
-part-same-name-end c = omega (arith, quotes (c .before .before))
+part-same-name-end c = omega (arith, quotes (c .before .before .before .before .before))
 
 same-name-requires : tie.Need-same-name-requires Inv-loop μ-loop
 same-name-requires c κs = search needs
 
 add-result : tie.Need-add-result Inv-loop μ-loop
-add-result c = omega (arith, name-here (c .before .before .before .before .before .before) .in-table .here)
+add-result c = omega (arith, name-here (c .before .before .before .before .before .before .before .before .before) .in-table .here)
 
 returns : tie.Need-returns Inv-loop μ-loop
 returns c =
-    let d = c .before .before .before .before .before in
-    hit (d .before .before .loop .inv) (d .before .loop-test .taken) (d .row-at2 .ensures) (sym (c .before .same-name .ensures) ∙ c .if1 .taken)
+    let d = c .before .before .before .before .before .before .before .before in
+    hit (d .before .before .loop .inv) (d .before .loop-test .taken) (d .row-at2 .ensures) (sym (c .before .same-name .ensures) ∙ c .if2 .taken)
 
 add-row-at : tie.Need-add-row-at Inv-loop μ-loop
 add-row-at c = omega (arith, name-here (c .before .before .before .before .before .before) .in-table .here)
@@ -87,7 +101,8 @@ loop-less c = omega arith
 loop-again : tie.Need-loop-again Inv-loop μ-loop
 loop-again c =
     let d = c .before .before .before .before .before .before in
-    missed (d .before .before .loop .inv) (d .before .loop-test .taken) (d .row-at2 .ensures) (sym (c .before .before .same-name .ensures) ∙ c .before .if1 .left)
+    missed (d .before .before .loop .inv) (d .before .loop-test .taken) (d .row-at2 .ensures)
+    (⊎-elim (λ w. sym (w .2 .ensures) ∙ w .3 .left) (λ w. c .before .before .apart .ensures (not-false _ (w .left))) (c .before .if1 .came))
     (c .row-at3 .ensures .next)
 
 returns-2 : tie.Need-returns-2 Inv-loop μ-loop
@@ -107,6 +122,10 @@ find-spec =
     add-from
     cast-to
     sub-to
+    sub-apart
+    part-apart-start
+    part-apart-end
+    apart-requires
     sub-same-name
     part-same-name-start
     part-same-name-end
