@@ -87,9 +87,7 @@ static void add_brackets(void) {
 }
 
 static maker *any_maker(void) {
-    maker *by;
-    do by = read_inputs[below((uint32_t)read_input_count)].by;
-    while (!by);
+    maker *by = read_inputs[below((uint32_t)read_input_count)].by;
     return by;
 }
 

@@ -254,15 +254,26 @@ static void make_64(struct text *t) {
     add(t, "{\"id\":1017,\"from\":\"Slip 2\",\"cars\":120,\"late\":false,\"note\":null }");
 }
 
-/* An object whose names all have one hash of the library's; it is left out while there is no maker. */
-static maker *const make_colliding = NULL;
+/*
+ * Names that all have one hash of the library's, which is 257 times the hash before a character, and the character:
+ * 98 * 257 + 33 is 97 * 257 + 0x122, so that each pair of a name may be either of two.
+ */
+static void make_colliding(struct text *t) {
+    uint32_t number = 0;
+    add_byte(t, '{');
+    for (size_t mark = t->length; fits(t, &mark, 0); number++) {
+        add_byte(t, '"');
+        for (int pair = 0; pair < 11; pair++) add(t, number >> pair & 1 ? "a\xc4\xa2" : "b!");
+        add(t, "\":1,");
+    }
+    t->bytes[t->length - 1] = '}';
+}
 
 const struct read_input read_inputs[] = {
     { "season", make_season, 0 },
     { "widest", make_widest, 0 },
     { "long-names", make_long_names, 0 },
     { "escaped-names", make_escaped_names, 0 },
-    { "colliding", make_colliding, 0 },
     { "deep", make_deep, 0 },
     { "ascii", make_ascii, 0 },
     { "multibyte", make_multibyte, 0 },
@@ -273,6 +284,7 @@ const struct read_input read_inputs[] = {
     { "indented", make_indented, 0 },
     { "1-kb", make_season, 1024 },
     { "64-bytes", make_64, 64 },
+    { "colliding", make_colliding, 65536 },
 };
 const size_t read_input_count = sizeof read_inputs / sizeof *read_inputs;
 

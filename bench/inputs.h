@@ -18,7 +18,7 @@ typedef void maker(struct text *t);
 
 void make(struct text *t, maker *by, size_t limit);
 
-/* For Read. A small text is made in one size, the others in two. */
+/* For Read. A text with `small` is made in that size alone, the others in two. */
 struct read_input {
     const char *name;
     maker *by;

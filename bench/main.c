@@ -156,10 +156,10 @@ static void read_small(const struct read_input *input) {
 static void read_all(void) {
     printf("%-15s %8s %10s %9s %10s %10s %9s\n", "Read", "bytes", "MB/s", "ns/byte", "plain MB/s", "ratio", "twice");
     for (size_t i = 0; i < read_input_count; i++)
-        if (read_inputs[i].by && !read_inputs[i].small) read_large(&read_inputs[i]);
+        if (!read_inputs[i].small) read_large(&read_inputs[i]);
     printf("\n%-15s %8s %10s %9s %10s %10s\n", "Read", "bytes", "ns/call", "", "plain ns", "ratio");
     for (size_t i = 0; i < read_input_count; i++)
-        if (read_inputs[i].by && read_inputs[i].small) read_small(&read_inputs[i]);
+        if (read_inputs[i].small) read_small(&read_inputs[i]);
 }
 
 /* Check beside Read of the document, Compare beside Read of both schemas. */
@@ -216,7 +216,7 @@ static int only(const char *name, unsigned long count, int plain) {
     struct timed timed[PER_PAIR];
     for (size_t i = 0; i < read_input_count; i++) {
         const struct read_input *input = &read_inputs[i];
-        if (!input->by || strcmp(input->name, name)) continue;
+        if (strcmp(input->name, name)) continue;
         make(&texts[0], input->by, input->small ? input->small : TELEPORT_DOCUMENT_LIMIT);
         timed[0] = (struct timed){ .service = plain ? PLAIN_READ : READ, .first = &texts[0] };
         round_of(timed, count);

@@ -177,6 +177,23 @@ def name_cases():
         yield text, refused(6, place)
 
 
+def wide_cases():
+    """Wide objects, of names that fall into few buckets of a hash and of names that share one, with none or one twice."""
+    for count, name in ((6000, "%d"), (2000, "name %05d"), (1000, "\u00e6%d"), (1000, "\\u0061%d")):
+        names = [name % i for i in range(count)]
+        yield from wide(names)
+    yield from wide(["".join("a\u0122" if i >> pair & 1 else "b!" for pair in range(10)) for i in range(1024)])
+
+
+def wide(names):
+    """An object with the names; then with one of them once more: the first, one in the middle, the last."""
+    text = "{%s}" % ",".join('"%s":1' % name for name in names)
+    yield text.encode(), taken(2 * len(names) + 1)
+    for again in (names[0], names[len(names) // 2], names[-1]):
+        longer = (text[:-1] + ',"%s' % again).encode()
+        yield longer + b'":1}', refused(6, len(longer))
+
+
 def depth_cases():
     """Code 7: the 33rd open bracket, only where a value may stand."""
     yield b"[" * 32 + b"]" * 32, taken(32)
@@ -226,7 +243,7 @@ def taken_cases():
 
 def all_cases():
     for cases in [length_cases, ended_cases, byte_cases, byte_range_cases,
-                  utf8_cases, surrogate_cases, name_cases, depth_cases,
+                  utf8_cases, surrogate_cases, name_cases, wide_cases, depth_cases,
                   taken_cases]:
         yield from cases()
 
