@@ -121,12 +121,12 @@ static void random_text(int whole) {
     uint32_t source = below(10);
     text.length = 0;
     if (whole) {
-        make(&text, any_maker(), TELEPORT_DOCUMENT_LIMIT);
+        make(&text, any_maker(), TELEPORT_DOCUMENT_LIMIT, 0);
         if (below(2)) for (size_t end = TELEPORT_DOCUMENT_LIMIT - 1 + below(3); text.length < end;) add(" ");
     } else if (source == 0) {
         add_brackets();
     } else if (source < 3) {
-        make(&text, any_maker(), 24 + below(300));
+        make(&text, any_maker(), 24 + below(300), 0);
         if (below(2)) text.length = below((uint32_t)text.length + 1);
     } else {
         add_value(below(5));

@@ -36,10 +36,10 @@ static int fits(struct text *t, size_t *mark, size_t closing) {
     return 0;
 }
 
-void make(struct text *t, maker *by, size_t limit) {
+void make(struct text *t, maker *by, size_t limit, uint32_t variant) {
     t->limit = limit;
     t->length = 0;
-    t->seed = 20240401;
+    t->seed = 20240401 + variant;
     by(t);
 }
 

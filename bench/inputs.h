@@ -1,4 +1,4 @@
-/* The texts that are measured. Each is made, always the same, to fit a number of bytes. */
+/* The texts that are measured. Each is made, always the same in each of its variants, to fit a number of bytes. */
 #ifndef INPUTS_H
 #define INPUTS_H
 
@@ -16,7 +16,7 @@ struct text {
 
 typedef void maker(struct text *t);
 
-void make(struct text *t, maker *by, size_t limit);
+void make(struct text *t, maker *by, size_t limit, uint32_t variant);
 
 /* For Read. A text with `small` is made in that size alone, the others in two. */
 struct read_input {

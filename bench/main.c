@@ -19,8 +19,11 @@ enum { TABLE_WORDS = TELEPORT_ROW_WORDS * TELEPORT_DOCUMENT_LIMIT };
 
 static uint32_t table1[TABLE_WORDS], table2[TABLE_WORDS];
 
-/* Documents, or new schemas, in the smaller and the larger size, and the other schema. */
-static struct text texts[2], schema;
+/* Documents, or new schemas, in the smaller and the larger size, and the other schema. Calls take the variants of a text
+ * by turns: the branches of a single text that is short enough are learnt by heart, and no stranger's file is. */
+enum { VARIANTS = 4 };
+
+static struct text texts[2][VARIANTS], schema;
 
 /* Rounds go on until so many have brought nothing better by a hundredth; a call of over `long_seconds` has two. */
 static double round_seconds = 0.02;
@@ -56,6 +59,7 @@ static double now(void) {
 struct timed {
     enum service service;
     const struct text *first, *second;
+    size_t variants; /* of the first */
     unsigned long calls;
     double best;
 };
@@ -63,7 +67,11 @@ struct timed {
 static double round_of(const struct timed *t, unsigned long calls) {
     uint32_t answer[4];
     double start = now();
-    for (unsigned long i = 0; i < calls; i++) call(t->service, t->first, t->second, answer);
+    const struct text *text = t->first, *last = t->first + t->variants - 1;
+    for (unsigned long i = 0; i < calls; i++) {
+        call(t->service, text, t->second, answer);
+        text = text == last ? t->first : text + 1;
+    }
     return now() - start;
 }
 
@@ -109,6 +117,19 @@ static void require_same(const struct text *text, const char *name) {
     require(memcmp(table1, table2, sizeof table1) == 0, "the same table", name);
 }
 
+static size_t length_of(const struct timed *t) {
+    size_t length = 0;
+    for (size_t i = 0; i < t->variants; i++) length += t->first[i].length;
+    return length / t->variants;
+}
+
+static void make_variants(struct text *variants, maker *by, size_t limit, const char *name) {
+    for (uint32_t i = 0; i < VARIANTS; i++) {
+        make(&variants[i], by, limit, i);
+        require_same(&variants[i], name);
+    }
+}
+
 static void print_bounded(double figure, double bound, const char *unmarked) {
     printf("%9.2f%s", figure, figure > bound ? "!" : unmarked);
 }
@@ -120,7 +141,7 @@ static void print_speed(const char *name, size_t bytes, double seconds) {
 /* How much longer twice the bytes take than `smaller`, which has about half of them. */
 static void print_twice(const struct timed *t, const struct timed *smaller) {
     if (smaller) {
-        double growth = (double)t->first->length / (double)smaller->first->length;
+        double growth = (double)length_of(t) / (double)length_of(smaller);
         print_bounded(2 / growth * t->best / smaller->best, twice_bound, "");
     }
     putchar('\n');
@@ -130,27 +151,28 @@ static void print_twice(const struct timed *t, const struct timed *smaller) {
 static void read_large(const struct read_input *input) {
     struct timed timed[4];
     for (int i = 0; i < 2; i++) {
-        make(&texts[i], input->by, (size_t)TELEPORT_DOCUMENT_LIMIT / 2 * (size_t)(i + 1));
-        require_same(&texts[i], input->name);
-        timed[2 * i] = (struct timed){ .service = READ, .first = &texts[i] };
-        timed[2 * i + 1] = (struct timed){ .service = PLAIN_READ, .first = &texts[i] };
+        make_variants(texts[i], input->by, (size_t)TELEPORT_DOCUMENT_LIMIT / 2 * (size_t)(i + 1), input->name);
+        timed[2 * i] = (struct timed){ .service = READ, .first = texts[i], .variants = VARIANTS };
+        timed[2 * i + 1] = (struct timed){ .service = PLAIN_READ, .first = texts[i], .variants = VARIANTS };
     }
     measure(timed, 4);
     for (int i = 0; i < 2; i++) {
         const struct timed *library = &timed[2 * i], *plain = &timed[2 * i + 1];
-        print_speed(input->name, texts[i].length, library->best);
-        printf(" %10.1f %10.2f", 1e-6 * (double)texts[i].length / plain->best, plain->best / library->best);
+        print_speed(input->name, length_of(library), library->best);
+        printf(" %10.1f %10.2f", 1e-6 * (double)length_of(plain) / plain->best, plain->best / library->best);
         print_twice(library, i ? &timed[0] : NULL);
     }
 }
 
 static void read_small(const struct read_input *input) {
-    make(&texts[0], input->by, input->small);
-    require_same(&texts[0], input->name);
-    struct timed timed[] = { { .service = READ, .first = &texts[0] }, { .service = PLAIN_READ, .first = &texts[0] } };
+    make_variants(texts[0], input->by, input->small, input->name);
+    struct timed timed[] = {
+        { .service = READ, .first = texts[0], .variants = VARIANTS },
+        { .service = PLAIN_READ, .first = texts[0], .variants = VARIANTS },
+    };
     measure(timed, 2);
     double library = 1e9 * timed[0].best, plain = 1e9 * timed[1].best;
-    printf("%-15s %8zu %10.0f %9s %10.0f %10.2f\n", input->name, texts[0].length, library, "", plain, plain / library);
+    printf("%-15s %8zu %10.0f %9s %10.0f %10.2f\n", input->name, length_of(timed), library, "", plain, plain / library);
 }
 
 static void read_all(void) {
@@ -166,19 +188,19 @@ static void read_all(void) {
 enum { PAIR, LIBRARY_FIRST, PLAIN_FIRST, LIBRARY_SECOND, PLAIN_SECOND, PER_PAIR };
 
 static void make_pair(const struct pair_input *input, int size, struct timed *timed) {
-    struct text *first = &texts[size];
-    make(first, input->first, (size_t)TELEPORT_DOCUMENT_LIMIT / 2 * (size_t)(size + 1));
-    make(&schema, input->second, TELEPORT_SCHEMA_LIMIT);
-    timed[PAIR] = (struct timed){ .service = input->compare ? COMPARE : CHECK, .first = first, .second = &schema };
-    timed[LIBRARY_FIRST] = (struct timed){ .service = READ, .first = first };
-    timed[PLAIN_FIRST] = (struct timed){ .service = PLAIN_READ, .first = first };
-    timed[LIBRARY_SECOND] = (struct timed){ .service = READ, .first = &schema };
-    timed[PLAIN_SECOND] = (struct timed){ .service = PLAIN_READ, .first = &schema };
+    struct text *first = texts[size];
+    make_variants(first, input->first, (size_t)TELEPORT_DOCUMENT_LIMIT / 2 * (size_t)(size + 1), input->name);
+    make(&schema, input->second, TELEPORT_SCHEMA_LIMIT, 0);
+    enum service service = input->compare ? COMPARE : CHECK;
+    timed[PAIR] = (struct timed){ .service = service, .first = first, .second = &schema, .variants = VARIANTS };
+    timed[LIBRARY_FIRST] = (struct timed){ .service = READ, .first = first, .variants = VARIANTS };
+    timed[PLAIN_FIRST] = (struct timed){ .service = PLAIN_READ, .first = first, .variants = VARIANTS };
+    timed[LIBRARY_SECOND] = (struct timed){ .service = READ, .first = &schema, .variants = 1 };
+    timed[PLAIN_SECOND] = (struct timed){ .service = PLAIN_READ, .first = &schema, .variants = 1 };
 }
 
 static void require_pair(const struct pair_input *input, const struct timed *timed) {
     uint32_t answer[4];
-    require_same(timed[PAIR].first, input->name);
     require_same(timed[PAIR].second, input->name);
     call(timed[PAIR].service, timed[PAIR].first, timed[PAIR].second, answer);
     require(answer[TELEPORT_CODE] == TELEPORT_OK, "code 0", input->name);
@@ -199,7 +221,7 @@ static void pair_of(const struct pair_input *input) {
             read += t[LIBRARY_SECOND].best;
             plain += t[PLAIN_SECOND].best;
         }
-        print_speed(input->name, t->first->length + t->second->length, t->best);
+        print_speed(input->name, length_of(t) + t->second->length, t->best);
         print_bounded(t->best / read, input->season ? check_bound : no_bound, " ");
         printf(" %10.2f", t->best / plain);
         print_twice(t, i ? timed : NULL);
@@ -217,8 +239,8 @@ static int only(const char *name, unsigned long count, int plain) {
     for (size_t i = 0; i < read_input_count; i++) {
         const struct read_input *input = &read_inputs[i];
         if (strcmp(input->name, name)) continue;
-        make(&texts[0], input->by, input->small ? input->small : TELEPORT_DOCUMENT_LIMIT);
-        timed[0] = (struct timed){ .service = plain ? PLAIN_READ : READ, .first = &texts[0] };
+        make(texts[0], input->by, input->small ? input->small : TELEPORT_DOCUMENT_LIMIT, 0);
+        timed[0] = (struct timed){ .service = plain ? PLAIN_READ : READ, .first = texts[0], .variants = 1 };
         round_of(timed, count);
         return 0;
     }
