@@ -19,7 +19,7 @@ fn is_digit(b: u8) -> bool
 }
 
 // The place behind the digits at a place.
-fn digits(text: &[u8], at: usize) -> usize
+pub fn digits(text: &[u8], at: usize) -> usize
     ensures { λ r. ⌜ r ≡ digitsEnd (now (text .entry)) at ⌝ }
 {
     let mut i = at;

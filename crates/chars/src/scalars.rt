@@ -1,5 +1,6 @@
 // What a value begins with, and the values that hold no other (01, "Rows").
 use crate::bytes::peek;
+use crate::numbers::digits;
 use crate::numbers::number;
 use crate::strings::Scan;
 use crate::strings::string_end;
@@ -8,6 +9,7 @@ use crate::tokens::unexpected;
 ghost use mathlib.Core.Path.{_≡_};
 ghost use Rattle.chars.specs.Tokens.{tokenOf, kindNumber, Kind};
 ghost use Rattle.chars.specs.Scalars.{firstOf, wordAt, quoted, scalarAt};
+ghost use Rattle.chars.specs.Wholes.{WholeStep};
 ghost use Rattle.chars.specs.Strings.{stringAt};
 ghost use Prim.Native.Nat.{_<_, _+_};
 ghost use lib.ListN.{length};
@@ -80,5 +82,23 @@ pub fn scalar(text: &[u8], at: usize) -> Token
         First::LetterF => literal(text, at, b"false", 2),
         First::LetterT => literal(text, at, b"true", 3),
         _ => unexpected(text, at),
+    }
+}
+
+// The place behind the number at a place that has digits alone and begins with no 0; the place itself where none stands there.
+pub fn whole_end(text: &[u8], at: usize) -> usize
+    ensures { λ r. ⌜ WholeStep (now (text .entry)) at r ⌝ }
+{
+    match peek(text, at) {
+        b'1'..=b'9' => {
+            let end = digits(text, at);
+            match peek(text, end) {
+                b'.' => at,
+                b'E' => at,
+                b'e' => at,
+                _ => end,
+            }
+        }
+        _ => at,
     }
 }

@@ -41,9 +41,9 @@ pub fn string_end(text: &[u8], at: usize) -> Scan
     }
 }
 
-// The bytes are the same.
-fn equal(a: &[u8], b: &[u8]) -> bool
-    ensures { λ r. ⌜ (r ≡ true → now (a .entry) ≡ now (b .entry)) ⌝ }
+// The bytes are the same, and so are the characters.
+pub fn equal(a: &[u8], b: &[u8]) -> bool
+    ensures { λ r. ⌜ (r ≡ true → same (characters (now (a .entry))) (characters (now (b .entry))) ≡ true) ⌝ }
 {
     let n = a.len();
     if b.len() != n {

@@ -1,6 +1,7 @@
 // A walk over the characters of a string: digits, and marks between them.
 use chars::Step;
 use chars::char_at;
+use chars::peek;
 ghost use mathlib.Core.Path.{_≡_};
 ghost use mathlib.Core.List.{List};
 ghost use Prim.Native.Nat.{ℕ, _<_};
@@ -24,6 +25,16 @@ pub enum Found {
 pub fn digit(body: &[u8], at: usize) -> Number
     ensures { λ r. ⌜ ((l : List ℕ) (k : ℕ) → Stands (now (body .entry)) at l k → DigitTold (now (body .entry)) l k r) ⌝ }
 {
+    let b = peek(body, at);
+    match b {
+        b'0'..=b'9' => {
+            return Number::Read {
+                value: b as u32 - 0x30,
+                next: at + 1,
+            };
+        }
+        _ => {}
+    }
     let Step::Char { value, next } = char_at(body, at) else {
         return Number::Wrong;
     };

@@ -1,4 +1,5 @@
 // The names that definitions are made of (01, "Definitions").
+use chars::equal;
 use chars::same_name;
 ghost use mathlib.Core.Path.{_≡_};
 ghost use Rattle.model.specs.Definition.{namedBy};
@@ -32,19 +33,19 @@ fn common_type(name: &[u8]) -> TypeName
 {
     match name.len() {
         6 => {
-            if same_name(name, b"String") {
+            if equal(name, b"String") {
                 return TypeName::Text;
             }
             TypeName::Unknown
         }
         7 => {
-            if same_name(name, b"Integer") {
+            if equal(name, b"Integer") {
                 return TypeName::Integer;
             }
             TypeName::Unknown
         }
         8 => {
-            if same_name(name, b"DateTime") {
+            if equal(name, b"DateTime") {
                 return TypeName::DateTime;
             }
             TypeName::Unknown

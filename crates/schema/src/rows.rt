@@ -1,5 +1,6 @@
 // Rows of a table (01, "Rows"), and the members of an object by name.
 use chars::apart;
+use chars::equal;
 use chars::same_name;
 ghost use mathlib.Core.Path.{_≡_};
 ghost use Prim.Native.Nat.{_+_, _*_, _≤_, _<_};
@@ -51,6 +52,9 @@ pub fn find(text: &[u8], table: &[u32], object: usize, key: &[u8]) -> usize
         let name = row_at(table, row);
         let from = name.first as usize + 1;
         let to = name.end as usize - 1;
+        if equal(key, &text[from..to]) {
+            return row + 1;
+        }
         if !apart(key, &text[from..to]) {
             if same_name(key, &text[from..to]) {
                 return row + 1;

@@ -2,10 +2,11 @@
 use mathlib.Core.Path.{_≡_, refl, sym, _∙_}
 use mathlib.Core.List.{List}
 use mathlib.Core.Bool.{true, false, not, _&&_}
-use Prim.Native.Nat.{ℕ, zero, suc, _+_, _-_}
+use Prim.Native.Nat.{ℕ, zero, suc, _+_, _-_, _≤_}
+use native.Mathlib.Omega.{arith}
 use lib.ListN.{length}
 use lib.Dec.{leb, ltb, eqb}
-use borrow.Author.Tests.{leb-true, le-ltb, not-true}
+use borrow.Author.Tests.{leb-true, le-leb, le-ltb, lt-ltb, ne-eqb, not-true}
 use Rattle.chars.specs.declared.characters.Step.the-variants.{Char, Quote}
 use Rattle.chars.specs.Bytes.{byteAt}
 use Rattle.chars.specs.Space.{runFrom, run}
@@ -24,6 +25,10 @@ from-plain s i b t =
     (λ v q. and-ways (leb 0x20 b) (ltb b 0x80) v
     (λ lo hi. rw (not-true (eqb b 0x22) q, not-true (eqb b 0x5C) r, le-ltb b 0x20 (leb-true 0x20 b lo), hi))))
 
+digit-plain : (b : ℕ) → 0x30 ≤ b → b ≤ 0x39 → isPlain b ≡ true
+unfolding isPlain
+digit-plain b lo hi = rw (le-leb 0x20 b (omega arith), lt-ltb b 0x80 (omega arith), ne-eqb b 0x22 (λ e. omega arith), ne-eqb b 0x5C (λ e. omega arith))
+
 module _ (s : List ℕ) (i : ℕ) where
   pub plain-char : isPlain (byteAt s i) ≡ true → charAt s i ≡ Char (byteAt s i) (i + 1)
   unfolding charAt
@@ -32,6 +37,10 @@ module _ (s : List ℕ) (i : ℕ) where
   -- the same, as it is read: b is the byte, and v its value
   pub plain-read : {b v : ℕ} → b ≡ byteAt s i → isPlain b ≡ true → v ≡ b → charAt s i ≡ Char v (i + 1)
   plain-read e t w = rw (w, e) (plain-char (rw e at t))
+
+  -- a digit is one
+  pub digit-read : {b : ℕ} → b ≡ byteAt s i → 0x30 ≤ b → b ≤ 0x39 → charAt s i ≡ Char b (i + 1)
+  digit-read {b} e lo hi = plain-read e (digit-plain b lo hi) refl
 
   -- the closing quote, by its byte
   pub quote-char : byteAt s i ≡ 0x22 → charAt s i ≡ Quote

@@ -7,7 +7,7 @@ use native.Mathlib.Decide.{decLt}
 use native.Mathlib.Omega.{arith}
 use lib.ListN.{length, List·getD-eq-default}
 use lib.Dec.{eqb, ltb}
-use borrow.Author.Tests.{eqb-true, ltb-true, lt-ltb, le-leb}
+use borrow.Author.Tests.{eqb-true, ltb-true, lt-ltb, le-leb, ne-eqb}
 use Rattle.model.specs.Text.{text, all, isScalar, isText}
 use Rattle.model.specs.Value.{isDigit}
 use Rattle.chars.specs.declared.strings.Scan.{Scan}
@@ -17,11 +17,13 @@ use Rattle.chars.specs.declared.scalars.First.the-variants.{Array, Objec
 use Rattle.chars.specs.Bytes.{byteAt}
 use Rattle.chars.specs.Parse.{Parse, refused, parsed, unexpected}
 use Rattle.chars.specs.Strings.{stringAt, charsAt, characters, part}
-use Rattle.chars.specs.Tokens.{Kind, Null, False, True}
+use Rattle.chars.specs.Tokens.{Kind, Null, False, True, Whole}
+use Rattle.chars.specs.Numbers.{digitsEnd, wholeEnd, exponentAt, fractionAt, unsignedAt, numberAt}
 use Rattle.chars.specs.Scalars.{firstOf, wordAt, quoted, scalarBy, scalarAt}
 use Rattle.chars.specs.Spelling.{Spells, IsQuoted}
 use Rattle.chars.proofs.bytes.Laws.{both, and-ways, in-text}
 use Rattle.chars.proofs.characters.Laws.{Scalar}
+use Rattle.chars.proofs.space.Laws.{run-next, run-from}
 use Rattle.chars.proofs.strings.Laws.{ScanAhead, string-ahead, string-close}
 use Rattle.chars.proofs.strings.Parts.{body-characters}
 use Rattle.chars.proofs.strings.Meaning.{Scalars, scalars}
@@ -163,3 +165,35 @@ scalars-text (v ∷ t) h = rw (scalar-test v (h .0)) (scalars-text t (h .1))
 
 pub characters-text : (s : List ℕ) → isText (characters s) ≡ true
 characters-text s = scalars-text (characters s) (scalars s 0)
+
+-- a number of digits alone that begins with no 0
+module _ (s : List ℕ) (i : ℕ) (l : 0x31 ≤ byteAt s i) (m : byteAt s i ≤ 0x39) where
+  abbrev ending : ℕ
+  ending = digitsEnd s i
+
+  is-digit : isDigit (byteAt s i) ≡ true
+  is-digit = rw (le-leb 0x30 (byteAt s i) (omega arith), le-leb (byteAt s i) 0x39 m)
+
+  number-begins : firstOf (byteAt s i) ≡ Number
+  unfolding firstOf
+  number-begins =
+      rw (ne-eqb (byteAt s i) 0x22 (λ q. omega arith), ne-eqb (byteAt s i) 0x5B (λ q. omega arith), ne-eqb (byteAt s i) 0x7B (λ q. omega arith), is-digit)
+
+  goes-on : i < ending
+  goes-on = omega (arith, run-next isDigit s i (in-text s i (omega arith)) is-digit, run-from isDigit s (i + 1))
+
+  pub whole-read : (byteAt s ending ≡ 0x2E → ⊥) → (byteAt s ending ≡ 0x45 → ⊥) → (byteAt s ending ≡ 0x65 → ⊥)
+      → (firstOf (byteAt s i) ≡ Number) × (scalarAt s i ≡ parsed Whole ending)
+  unfolding numberAt unsignedAt wholeEnd fractionAt exponentAt
+  whole-read a b c = (
+    number-begins,
+    rw (
+      number-begins,
+      ne-eqb (byteAt s i) 0x2D (λ q. omega arith),
+      ne-eqb (byteAt s i) 0x30 (λ q. omega arith),
+      ne-eqb ending i (λ q. omega (arith, goes-on)),
+      ne-eqb (byteAt s ending) 0x2E a,
+      ne-eqb (byteAt s ending) 0x45 b,
+      ne-eqb (byteAt s ending) 0x65 c,
+    ),
+  )

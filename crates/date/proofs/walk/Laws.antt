@@ -19,7 +19,7 @@ use Rattle.date.specs.declared.walk.Number.{Number}
 use Rattle.date.specs.declared.walk.Number.the-variants.{Read, Wrong}
 use Rattle.date.specs.declared.walk.Found.{Found}
 use Rattle.date.specs.declared.walk.Found.the-variants.{Behind, Nothing}
-use Rattle.date.specs.Walk.{Stands, TwoTold, MarkTold, EitherTold, MarkedTold}
+use Rattle.date.specs.Walk.{Stands, DigitTold, TwoTold, MarkTold, EitherTold, MarkedTold}
 
 at-drop : (l : List ℕ) (k : ℕ) → at (drop k l) 0 ≡ at l k
 at-drop l k = getD-drop k l 0 0 ∙ ap (at l) (add-zero k)
@@ -38,6 +38,10 @@ module _ (s : List ℕ) (i : ℕ) (l : List ℕ) (k : ℕ) (e : Stands s i l k) 
 
     pub more-is : leb (length l) k ≡ false
     more-is = lt-leb (length l) k (omega (arith, length-drop k l, ap length front))
+
+    -- and is a digit
+    pub digit-told : 0x30 ≤ v → v ≤ 0x39 → DigitTold s l k (Read (v - 0x30) j)
+    digit-told lo hi = (rw (first-is, le-leb 0x30 v lo, le-leb v 0x39 hi), rw first-is, rest-is)
 
   -- none does
   module _ (n : charsAt s i ≡ []) where

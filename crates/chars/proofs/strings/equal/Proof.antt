@@ -8,6 +8,7 @@ use denote.Ref.{now}
 use lib.ListN.{getD}
 use lib.Seq.{ext-getD}
 use Rattle.chars.proofs.strings.Laws.{not-so}
+use Rattle.chars.proofs.strings.Meaning.{same-names}
 use Rattle.chars.proofs.strings.equal.Statement.{statement}
 use Rattle.chars.proofs.strings.equal.Tie as tie
 
@@ -46,7 +47,7 @@ loop-again : tie.Need-loop-again Inv-loop μ-loop
 loop-again c = (search needs, below-more (SameAt (c .before .before .before .before .before .before)) _ (c .before .before .before .before .loop .inv .1) (c .if2 .left))
 
 returns-3 : tie.Need-returns-3 Inv-loop μ-loop
-returns-3 c _ = ext-getD 0 _ _ (omega arith) (λ k l. c .before .loop .inv .1 k (omega arith))
+returns-3 c _ = same-names _ _ (ext-getD 0 _ _ (omega arith) (λ k l. c .before .loop .inv .1 k (omega arith)))
 
 pub equal-spec : {M : Type 1} → statement M
 equal-spec =

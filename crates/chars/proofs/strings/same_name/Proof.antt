@@ -9,7 +9,6 @@ use Rattle.chars.specs.declared.characters.Step.the-variants.{Char}
 use Rattle.chars.specs.Characters.{charAt}
 use Rattle.chars.specs.Strings.{characters, charsAt}
 use Rattle.model.specs.Text.{same}
-use Rattle.chars.proofs.strings.Meaning.{same-names}
 use Rattle.chars.proofs.strings.Laws.{char-next, chars-char, chars-none, differ, alike, longer, shorter, ended}
 use Rattle.chars.proofs.strings.same_name.Statement.{statement}
 use Rattle.chars.proofs.strings.same_name.Tie as tie
@@ -24,7 +23,7 @@ equal-requires : tie.Need-equal-requires Inv-loop μ-loop
 equal-requires c κs = search needs
 
 returns : tie.Need-returns Inv-loop μ-loop
-returns c = sym (same-names _ _ (c .before .equal .ensures (c .if1 .taken)))
+returns c = sym (c .before .equal .ensures (c .if1 .taken))
 
 loop-holds : tie.Need-loop-holds Inv-loop μ-loop
 loop-holds c = refl

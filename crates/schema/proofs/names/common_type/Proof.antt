@@ -1,49 +1,51 @@
--- `schema::names::common_type` meets its contract: a name that is the word of its length; nothing is said of `Unknown`.
-use mathlib.Core.Path.{refl}
+-- `schema::names::common_type` meets its contract: a name with the bytes of the word of its length; nothing is said of `Unknown`.
+use mathlib.Core.Path.{_≡_, refl}
+use mathlib.Core.Bool.{true}
 use denote.Ref.{now}
 use Rattle.model.specs.Text.{text}
 use Rattle.chars.specs.Strings.{characters}
-use Rattle.schema.proofs.Words.{plain, Test, is-word}
+use Rattle.chars.proofs.Facts.{same-true}
+use Rattle.schema.proofs.Words.{plain}
 use borrow.Author.Needs.{needs}
 use Rattle.schema.proofs.names.common_type.Statement.{statement}
 use Rattle.schema.proofs.names.common_type.Tie as tie
 
--- what each test says of the name
-string : (c : tie.After-same-name) → Test (characters (now (c .before .before .before .before .args .name))) (text "String") (c .same-name .result)
-string c = record { says = rw (plain .string) at (c .same-name .ensures) }
+-- a name with the bytes of a word is that word
+string : (c : tie.After-equal) → c .equal .result ≡ true → characters (now (c .before .before .before .before .args .name)) ≡ text "String"
+string c t = same-true _ _ (rw (plain .string) at (c .equal .ensures t))
 
-integer : (c : tie.After-same-name2) → Test (characters (now (c .before .before .before .before .args .name))) (text "Integer") (c .same-name2 .result)
-integer c = record { says = rw (plain .integer) at (c .same-name2 .ensures) }
+integer : (c : tie.After-equal2) → c .equal2 .result ≡ true → characters (now (c .before .before .before .before .args .name)) ≡ text "Integer"
+integer c t = same-true _ _ (rw (plain .integer) at (c .equal2 .ensures t))
 
-date-time : (c : tie.After-same-name3) → Test (characters (now (c .before .before .before .before .args .name))) (text "DateTime") (c .same-name3 .result)
-date-time c = record { says = rw (plain .date-time) at (c .same-name3 .ensures) }
+date-time : (c : tie.After-equal3) → c .equal3 .result ≡ true → characters (now (c .before .before .before .before .args .name)) ≡ text "DateTime"
+date-time c t = same-true _ _ (rw (plain .date-time) at (c .equal3 .ensures t))
 
-slice-aggregate-same-name : tie.Need-slice-aggregate-same-name
-slice-aggregate-same-name c = search needs
+slice-aggregate-equal : tie.Need-slice-aggregate-equal
+slice-aggregate-equal c = search needs
 
-same-name-requires : tie.Need-same-name-requires
-same-name-requires c κs = search needs
+equal-requires : tie.Need-equal-requires
+equal-requires c κs = search needs
 
 returns : tie.Need-returns
-returns c _ = rw (is-word (string (c .before)) (c .if1 .taken))
+returns c _ = rw (string (c .before) (c .if1 .taken))
 
-slice-aggregate-same-name-2 : tie.Need-slice-aggregate-same-name-2
-slice-aggregate-same-name-2 c = search needs
+slice-aggregate-equal-2 : tie.Need-slice-aggregate-equal-2
+slice-aggregate-equal-2 c = search needs
 
-same-name-requires-2 : tie.Need-same-name-requires-2
-same-name-requires-2 c κs = search needs
+equal-requires-2 : tie.Need-equal-requires-2
+equal-requires-2 c κs = search needs
 
 returns-2 : tie.Need-returns-2
-returns-2 c _ = rw (is-word (integer (c .before)) (c .if2 .taken))
+returns-2 c _ = rw (integer (c .before) (c .if2 .taken))
 
-slice-aggregate-same-name-3 : tie.Need-slice-aggregate-same-name-3
-slice-aggregate-same-name-3 c = search needs
+slice-aggregate-equal-3 : tie.Need-slice-aggregate-equal-3
+slice-aggregate-equal-3 c = search needs
 
-same-name-requires-3 : tie.Need-same-name-requires-3
-same-name-requires-3 c κs = search needs
+equal-requires-3 : tie.Need-equal-requires-3
+equal-requires-3 c κs = search needs
 
 returns-3 : tie.Need-returns-3
-returns-3 c _ = rw (is-word (date-time (c .before)) (c .if3 .taken))
+returns-3 c _ = rw (date-time (c .before) (c .if3 .taken))
 
 returns-4 : tie.Need-returns-4
 returns-4 c known = absurd (known refl)
@@ -61,14 +63,14 @@ pub common-type-spec : {M : Type 1} → statement M
 common-type-spec =
     tie.close
     (tie.spec
-    slice-aggregate-same-name
-    same-name-requires
+    slice-aggregate-equal
+    equal-requires
     returns
-    slice-aggregate-same-name-2
-    same-name-requires-2
+    slice-aggregate-equal-2
+    equal-requires-2
     returns-2
-    slice-aggregate-same-name-3
-    same-name-requires-3
+    slice-aggregate-equal-3
+    equal-requires-3
     returns-3
     returns-4
     returns-5

@@ -30,6 +30,10 @@ quotes : (c : tie.After-row-at2 Inv-loop μ-loop)
     (x .first + 2 ≤ x .end) × (x .end ≤ length (now (c .before .before .before .before .before .before .before .args .text)))
 quotes c = quotes-read (c .row-at2 .ensures) (name-here (c .before) .quoted)
 
+-- the row of a name whose bytes are others
+abbrev row-read : tie.Else1 Inv-loop μ-loop → tie.After-row-at2 Inv-loop μ-loop
+row-read c = c .before .before .before .before .before
+
 row-at-requires : tie.Need-row-at-requires Inv-loop μ-loop
 row-at-requires c κs = in-table (as-row (c .before .before .before .pre))
 
@@ -54,43 +58,65 @@ cast-to c = search needs
 sub-to : tie.Need-sub-to Inv-loop μ-loop
 sub-to c = omega (arith, quotes (c .before .before))
 
+sub-equal : tie.Need-sub-equal Inv-loop μ-loop
+sub-equal c = omega (arith, quotes (c .before .before))
+
+part-equal-start : tie.Need-part-equal-start Inv-loop μ-loop
+part-equal-start c = omega (arith, quotes (c .before .before))
+
+part-equal-end : tie.Need-part-equal-end Inv-loop μ-loop
+part-equal-end c = omega (arith, quotes (c .before .before))
+
+equal-requires : tie.Need-equal-requires Inv-loop μ-loop
+equal-requires c κs = search needs
+
+add-result : tie.Need-add-result Inv-loop μ-loop
+add-result c = omega (arith, name-here (c .before .before .before .before .before .before) .in-table .here)
+
+returns : tie.Need-returns Inv-loop μ-loop
+returns c =
+    let d = c .before .before .before .before .before in
+    hit (d .before .before .loop .inv) (d .before .loop-test .taken) (d .row-at2 .ensures) (c .before .equal .ensures (c .if1 .taken))
+
 sub-apart : tie.Need-sub-apart Inv-loop μ-loop
-sub-apart c = omega (arith, quotes (c .before .before))
+sub-apart c = omega (arith, quotes (row-read c))
 
 part-apart-start : tie.Need-part-apart-start Inv-loop μ-loop
-part-apart-start c = omega (arith, quotes (c .before .before))
+part-apart-start c = omega (arith, quotes (row-read c))
 
 part-apart-end : tie.Need-part-apart-end Inv-loop μ-loop
-part-apart-end c = omega (arith, quotes (c .before .before))
+part-apart-end c = omega (arith, quotes (row-read c))
 
 apart-requires : tie.Need-apart-requires Inv-loop μ-loop
 apart-requires c κs = search needs
 
 sub-same-name : tie.Need-sub-same-name Inv-loop μ-loop
-sub-same-name c = omega (arith, quotes (c .before .before .before .before .before))
+sub-same-name c = omega (arith, quotes (row-read (c .before .before .before)))
 
 part-same-name-start : tie.Need-part-same-name-start Inv-loop μ-loop
-part-same-name-start c = omega (arith, quotes (c .before .before .before .before .before))
+part-same-name-start c = omega (arith, quotes (row-read (c .before .before .before)))
 
 part-same-name-end : tie.Need-part-same-name-end Inv-loop μ-loop
-part-same-name-end c = omega (arith, quotes (c .before .before .before .before .before))
+part-same-name-end c = omega (arith, quotes (row-read (c .before .before .before)))
 
 same-name-requires : tie.Need-same-name-requires Inv-loop μ-loop
 same-name-requires c κs = search needs
 
-add-result : tie.Need-add-result Inv-loop μ-loop
-add-result c = omega (arith, name-here (c .before .before .before .before .before .before .before .before .before) .in-table .here)
+add-result-2 : tie.Need-add-result-2 Inv-loop μ-loop
+add-result-2 c =
+    let d = row-read (c .before .before .before .before .before .before) in
+    omega (arith, name-here (d .before) .in-table .here, d .before .before .before .before .before .before .before .good)
 
-returns : tie.Need-returns Inv-loop μ-loop
-returns c =
-    let d = c .before .before .before .before .before .before .before .before in
-    hit (d .before .before .loop .inv) (d .before .loop-test .taken) (d .row-at2 .ensures) (sym (c .before .same-name .ensures) ∙ c .if2 .taken)
+returns-2 : tie.Need-returns-2 Inv-loop μ-loop
+returns-2 c =
+    let d = row-read (c .before .before .before .before .before .before) in
+    hit (d .before .before .loop .inv) (d .before .loop-test .taken) (d .row-at2 .ensures) (sym (c .before .same-name .ensures) ∙ c .if3 .taken)
 
 add-row-at : tie.Need-add-row-at Inv-loop μ-loop
-add-row-at c = omega (arith, name-here (c .before .before .before .before .before .before) .in-table .here)
+add-row-at c = omega (arith, name-here (row-read (c .before .before .before) .before) .in-table .here)
 
 row-at-requires-3 : tie.Need-row-at-requires-3 Inv-loop μ-loop
-row-at-requires-3 c κs = in-table (name-here (c .before .before .before .before .before .before) .value)
+row-at-requires-3 c κs = in-table (name-here (row-read (c .before .before .before) .before) .value)
 
 sub-left : tie.Need-sub-left Inv-loop μ-loop
 sub-left c = omega arith
@@ -100,13 +126,13 @@ loop-less c = omega arith
 
 loop-again : tie.Need-loop-again Inv-loop μ-loop
 loop-again c =
-    let d = c .before .before .before .before .before .before in
+    let d = row-read (c .before .before .before .before) in
     missed (d .before .before .loop .inv) (d .before .loop-test .taken) (d .row-at2 .ensures)
-    (⊎-elim (λ w. sym (w .2 .ensures) ∙ w .3 .left) (λ w. c .before .before .apart .ensures (not-false _ (w .left))) (c .before .if1 .came))
+    (⊎-elim (λ w. sym (w .2 .ensures) ∙ w .3 .left) (λ w. c .before .before .apart .ensures (not-false _ (w .left))) (c .before .if2 .came))
     (c .row-at3 .ensures .next)
 
-returns-2 : tie.Need-returns-2 Inv-loop μ-loop
-returns-2 c = seek-end (c .before .loop .inv) (c .loop-test .left)
+returns-3 : tie.Need-returns-3 Inv-loop μ-loop
+returns-3 c = seek-end (c .before .loop .inv) (c .loop-test .left)
 
 pub find-spec : {M : Type 1} → statement M
 find-spec =
@@ -122,6 +148,12 @@ find-spec =
     add-from
     cast-to
     sub-to
+    sub-equal
+    part-equal-start
+    part-equal-end
+    equal-requires
+    add-result
+    returns
     sub-apart
     part-apart-start
     part-apart-end
@@ -130,11 +162,11 @@ find-spec =
     part-same-name-start
     part-same-name-end
     same-name-requires
-    add-result
-    returns
+    add-result-2
+    returns-2
     add-row-at
     row-at-requires-3
     sub-left
     loop-less
     loop-again
-    returns-2)
+    returns-3)
