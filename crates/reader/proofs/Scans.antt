@@ -1,5 +1,6 @@
 -- The first pass on plain values: what each way out of a loop body leaves, on the stack of names, in its index and among the rows that are kept.
 use mathlib.Core.Path.{_≡_, refl, sym, ap, _∙_}
+use mathlib.Core.Logic.{inl, inr}
 use mathlib.Core.List.{List, [], _∷_, _++_, append-nil}
 use mathlib.Core.Bool.{Bool, true, false, cond}
 use Prim.Native.Nat.{ℕ, suc, _+_, _-_, _*_, _≤_, _<_}
@@ -13,10 +14,12 @@ use lib.Seq.{slice, slice-empty, slice-cons, take-take, take-set-le, take-set-lt
 use Rattle.chars.specs.Bytes.{byteAt}
 use Rattle.chars.specs.Parse.{Parse, refused, parsed, then, unexpected}
 use Rattle.chars.specs.Space.{isSpace, skip}
-use Rattle.chars.specs.Tokens.{Kind, Null}
+use Rattle.chars.specs.Tokens.{Kind, Null, Whole, tokenOf}
 use Rattle.chars.specs.Scalars.{firstOf, scalarAt}
 use Rattle.chars.specs.declared.scalars.First.{First}
-use Rattle.chars.specs.declared.scalars.First.the-variants.{Array, Object}
+use Rattle.chars.specs.declared.scalars.First.the-variants.{Array, Object, Number}
+use Rattle.chars.specs.Wholes.{WholeStep}
+use Rattle.chars.specs.declared.tokens.Token.the-variants.{Taken}
 use Rattle.chars.proofs.Facts.{run-from, run-within, first-array, first-object, scalar-bounded, hash-small}
 use Rattle.chars.proofs.scalars.First.{the-type}
 use Rattle.chars.specs.declared.hashing.Hashed.{Hashed}
@@ -28,7 +31,7 @@ use Rattle.reader.specs.Grammar.{nameOf, itemsAt, listAt, elementAt, arr
 use Rattle.reader.specs.Packing.{firstIn}
 use Rattle.reader.specs.Stack.{nameWord, endIn, bucketOf, AreNames, Stacked, Names, Index, hashedOf, NameTold}
 use Rattle.reader.specs.Marks.{leafMark, listMark, rowIn, rowsIn}
-use Rattle.reader.specs.Passes.{scanOf, Room, Ready, LeafAfter, LeafTold, Marked, After, Told, MemberReady, MemberMarked, MemberScan, MemberTold}
+use Rattle.reader.specs.Passes.{scanOf, Room, LeafReady, Ready, LeafAfter, LeafTold, Marked, After, Told, MemberReady, MemberMarked, MemberScan, MemberTold}
 use Rattle.reader.specs.declared.scanning.Scanned.{Scanned}
 use Rattle.reader.specs.declared.scanning.Scanned.the-variants.{Refused, Value}
 use Rattle.reader.proofs.Items.{Reads, unexpected-both, item-takes, items-refused, items-next, items-close, items-bad, list-empty, list-items, byte-in}
@@ -36,6 +39,7 @@ use Rattle.reader.proofs.Sizes.{size-pos, sizes-add, sizesMembers-add, 
 use Rattle.reader.proofs.Values.{value-deep-array, value-array, value-deep-object, value-object, first-leaf, value-leaf, leaf-parsed, name-within, name-takes}
 use Rattle.reader.proofs.Values.{member-parsed, member-bare, member-value, element-reads, member-reads, value-takes, member-takes}
 use Rattle.reader.proofs.Outcomes.{scan-refused, scan-value}
+use Rattle.reader.proofs.Leaves.{leaf-fits, leaf-noted}
 use Rattle.reader.proofs.Marking.{leaf-row, list-row, rows-append, rows-cons, rows-none}
 use Rattle.reader.proofs.Stacks.{stacked-push, names-push, kept-below, slice-push, kept-push}
 use Rattle.reader.proofs.Indexes.{bucket-in, index-head}
@@ -796,9 +800,35 @@ module _ {s ns hs ms : List ℕ} {d top row i : ℕ} (ms₂ : List ℕ) (p : Rea
   leaf-after (refused c q) z a = tt
   leaf-after (parsed n e) z a = leaf-marked n e z a
 
+  -- its first byte opens neither an array nor an object
+  as-leaf : {r : Scanned} → (firstOf (byteAt s i) ≡ Array → ⊥) → (firstOf (byteAt s i) ≡ Object → ⊥) → LeafTold (leafAt s i) r row ms ms₂
+      → Told (valueAt d s i) r top row ns ms ns hs ms₂
+  as-leaf m n o = rw (value-leaf d s i m n) (record { scan = o .scan; after = leaf-after (leafAt s i) refl (o .after) })
+
   pub told-leaf : {f : First} {r : Scanned} → Begun s i f → OneOf (2 ∷ 3 ∷ 4 ∷ 5 ∷ 6 ∷ 7 ∷ []) (tagOf the-type f) → LeafTold (leafAt s i) r row ms ms₂
       → Told (valueAt d s i) r top row ns ms ns hs ms₂
-  told-leaf {f} b h o =
-      let n = first-leaf f h in
-      rw (value-leaf d s i (λ e. n .0 (b .first ∙ e)) (λ e. n .1 (b .first ∙ e)))
-      (record { scan = o .scan; after = leaf-after (leafAt s i) refl (o .after) })
+  told-leaf {f} b h o = let n = first-leaf f h in as-leaf (λ e. n .0 (b .first ∙ e)) (λ e. n .1 (b .first ∙ e)) o
+
+not-array : Number ≡ Array → ⊥
+not-array q = let z : _≡_ {A = ℕ} 0 1 = cc in omega arith
+
+not-object : Number ≡ Object → ⊥
+not-object q = let z : _≡_ {A = ℕ} 0 1 = cc in omega arith
+
+-- a number of digits alone
+module _ {s ns hs ms : List ℕ} {d top row i e : ℕ} (p : Ready s ns hs ms d top row i) (w : WholeStep s i e) (l : i < e) where
+  whole-is : (firstOf (byteAt s i) ≡ Number) × (scalarAt s i ≡ parsed Whole e)
+  whole-is = elim w [ inl q ↦ absurd (omega arith) | inr q ↦ q ]
+
+  whole-ready : LeafReady s ms row i
+  whole-ready = let f = leaf-free p in record { short = f .0; free = f .1 }
+
+  whole-token : Taken 4 e ≡ tokenOf (scalarAt s i)
+  whole-token = rw (whole-is .1)
+
+  pub whole-fits : ((4 < 65536) × (i < e) × (e ≤ 65536)) × (row < length ms)
+  whole-fits = leaf-fits whole-ready whole-token refl
+
+  pub told-whole : {m : ℕ} → m ≡ leafMark 4 i e → Told (valueAt d s i) (Value e 1) top row ns ms ns hs (set ms row m)
+  told-whole {m} q =
+      as-leaf (set ms row m) p (λ z. not-array (sym (whole-is .0) ∙ z)) (λ z. not-object (sym (whole-is .0) ∙ z)) (leaf-noted whole-ready whole-token refl q)

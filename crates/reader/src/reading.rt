@@ -79,6 +79,18 @@ fn read_8192(text: &[u8], depth: usize, table: &mut [u32]) -> Scanned
     read_in(text, depth, &mut names, &mut heads, &mut marks, table)
 }
 
+// The same of at most 32,768 bytes.
+fn read_32768(text: &[u8], depth: usize, table: &mut [u32]) -> Scanned
+    requires { ⌜ (length (now text) ≤ 32768) × (depth ≤ 32) ⌝ }
+    ensures scans { λ r. ⌜ r ≡ scanOf (wholeAt depth (now (text .entry))) ⌝ }
+    ensures rows { λ _. ⌜ now (table .exit) ≡ tableOf (now (table .entry)) (wholeAt depth (now (text .entry))) ⌝ }
+{
+    let mut names = [0u64; 8192];
+    let mut heads = [0u16; 8192];
+    let mut marks = [0u64; 16401];
+    read_in(text, depth, &mut names, &mut heads, &mut marks, table)
+}
+
 // The same of at most 65,536 bytes.
 fn read_65536(text: &[u8], depth: usize, table: &mut [u32]) -> Scanned
     requires { ⌜ (length (now text) ≤ 65536) × (depth ≤ 32) ⌝ }
@@ -110,6 +122,9 @@ fn read_whole(text: &[u8], depth: usize, table: &mut [u32]) -> Scanned
     }
     if n <= 8192 {
         return read_8192(text, depth, table);
+    }
+    if n <= 32768 {
+        return read_32768(text, depth, table);
     }
     read_65536(text, depth, table)
 }

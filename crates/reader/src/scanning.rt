@@ -11,6 +11,7 @@ use chars::begins;
 use chars::peek;
 use chars::scalar;
 use chars::skip;
+use chars::whole_end;
 ghost use mathlib.Core.Path.{_≡_};
 ghost use Prim.Native.Nat.{_+_, _<_};
 ghost use lib.ListN.{length};
@@ -83,6 +84,28 @@ pub fn value(
     }
 }
 
+// The same of an element or of what stands under a name: a number of digits alone is told without a further call.
+fn item(
+    text: &[u8],
+    names: &mut [u64],
+    heads: &mut [u16],
+    marks: &mut [u64],
+    top: usize,
+    row: usize,
+    at: usize,
+    depth: usize,
+) -> Scanned
+    requires { ⌜ Ready (now text) (now names) (now heads) (now marks) depth top row at ⌝ }
+    ensures { λ r. ⌜ Told (valueAt depth (now (text .entry)) at) r top row (now (names .entry)) (now (marks .entry)) (now (names .exit)) (now (heads .exit)) (now (marks .exit)) ⌝ }
+{
+    let end = whole_end(text, at);
+    if end > at {
+        marks[row] = leaf_mark(4, at, end);
+        return Scanned::Value { end, rows: 1 };
+    }
+    value(text, names, heads, marks, top, row, at, depth)
+}
+
 // The array whose bracket stands at a place.
 fn array(
     text: &[u8],
@@ -108,7 +131,7 @@ fn array(
     let mut rows: usize = 1;
     let mut children: usize = 0;
     loop {
-        match value(text, names, heads, marks, top, row + rows, i, depth) {
+        match item(text, names, heads, marks, top, row + rows, i, depth) {
             Scanned::Refused { code, place } => {
                 return Scanned::Refused { code, place };
             }
@@ -155,7 +178,7 @@ fn member(
                 return refuse(text, j);
             }
             let k = skip(text, j + 1);
-            match value(text, names, heads, marks, count + 1, row + 1, k, depth) {
+            match item(text, names, heads, marks, count + 1, row + 1, k, depth) {
                 Scanned::Refused { code, place } => Scanned::Refused { code, place },
                 Scanned::Value { end, rows } => Scanned::Value {
                     end,

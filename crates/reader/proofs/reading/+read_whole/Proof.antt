@@ -9,6 +9,7 @@ use Rattle.reader.proofs.reading.read_whole.Kinds as read-whole-kinds
 use Rattle.reader.proofs.reading.+read_whole.Lts-read_whole as read-whole-lts
 use Rattle.reader.proofs.reading.read_1024.Reads as read-1024-reads
 use Rattle.reader.proofs.reading.read_128.Reads as read-128-reads
+use Rattle.reader.proofs.reading.read_32768.Reads as read-32768-reads
 use Rattle.reader.proofs.reading.read_65536.Reads as read-65536-reads
 use Rattle.reader.proofs.reading.read_8192.Reads as read-8192-reads
 use Rattle.reader.proofs.reading.+read_whole.{statement}
@@ -33,6 +34,8 @@ claims t = (
   read-1024-reads.Learnt,
   read-8192-reads.Asked,
   read-8192-reads.Learnt,
+  read-32768-reads.Asked,
+  read-32768-reads.Learnt,
   read-65536-reads.Asked,
   read-65536-reads.Learnt,
 )
@@ -74,14 +77,23 @@ module _ (t : ℕ) where
   returns-4 : read-whole-lts.Need-returns-4 (claims t) (at t) read-whole.Post
   returns-4 c = rw (min-eq-left (c .before .before .before .before .before .before .before .if1 .left)) (c .before .before .read-8192 .ensures)
 
-  read-65536-requires : read-whole-lts.Need-read-65536-requires (claims t) (at t) read-whole.Post
-  read-65536-requires c κs = (c .before .before .before .before .before .before .before .pre .1, c .before .before .before .before .if1 .left)
+  read-32768-requires : read-whole-lts.Need-read-32768-requires (claims t) (at t) read-whole.Post
+  read-32768-requires c κs = (c .before .if5 .taken, c .before .before .before .before .before .if1 .left)
 
   same-length-5 : read-whole-lts.Need-same-length-5 (claims t) (at t) read-whole.Post
-  same-length-5 c = c .before .before .read-65536 .kept .1 .1 .0
+  same-length-5 c = c .before .before .read-32768 .kept .1 .1 .0
 
   returns-5 : read-whole-lts.Need-returns-5 (claims t) (at t) read-whole.Post
-  returns-5 c = rw (min-eq-left (c .before .before .before .before .before .before .before .if1 .left)) (c .before .before .read-65536 .ensures)
+  returns-5 c = rw (min-eq-left (c .before .before .before .before .before .before .before .before .if1 .left)) (c .before .before .read-32768 .ensures)
+
+  read-65536-requires : read-whole-lts.Need-read-65536-requires (claims t) (at t) read-whole.Post
+  read-65536-requires c κs = (c .before .before .before .before .before .before .before .before .pre .1, c .before .before .before .before .before .if1 .left)
+
+  same-length-6 : read-whole-lts.Need-same-length-6 (claims t) (at t) read-whole.Post
+  same-length-6 c = c .before .before .read-65536 .kept .1 .1 .0
+
+  returns-6 : read-whole-lts.Need-returns-6 (claims t) (at t) read-whole.Post
+  returns-6 c = rw (min-eq-left (c .before .before .before .before .before .before .before .before .if1 .left)) (c .before .before .read-65536 .ensures)
 
 pub +read-whole-spec : {M : Type 1} → statement M
 +read-whole-spec = close μ-read-whole λ t. read-whole-lts.spec (claims t) (at t)
@@ -98,6 +110,9 @@ pub +read-whole-spec : {M : Type 1} → statement M
     (read-8192-requires t)
     (same-length-4 t)
     (returns-4 t)
-    (read-65536-requires t)
+    (read-32768-requires t)
     (same-length-5 t)
     (returns-5 t)
+    (read-65536-requires t)
+    (same-length-6 t)
+    (returns-6 t)

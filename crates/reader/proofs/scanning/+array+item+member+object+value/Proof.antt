@@ -1,4 +1,4 @@
--- The first pass meets its contracts. The measure is thrice the brackets allowed to open, with two more in `array` and `object` and one more in `member`.
+-- The first pass meets its contracts. The measure is four times the brackets allowed to open, with three more in `array` and `object`, two in `member` and one in `item`.
 -- The loops' invariants are `InArray` and `InObject`; `Scans` has a law for each way out of their bodies. Below each member's name stands what is known at its places.
 use Prim.Native.Nat.{ℕ, _+_, _-_, _*_, _≤_, _<_}
 use mathlib.Core.Path.{sym, ap, _∙_}
@@ -15,23 +15,28 @@ use Rattle.reader.proofs.Scans.{member-turn-names, member-turn-kids, ob
 use Rattle.reader.proofs.Scans.{NameRead, Named, name-read, name-room, name-link, told-unnamed, told-bare, name-behind, named-ready, named-rows}
 use Rattle.reader.proofs.Scans.{told-valueless, told-member}
 use Rattle.reader.proofs.Scans.{Begun, array-in, object-in, array-deep, object-deep, told-leaf, told-array, told-object, opens-ready, leaf-free}
+use Rattle.reader.proofs.Scans.{whole-fits, told-whole}
 use borrow.Fn.Kinds.{In}
 use borrow.Fn.PlainCycle.{Measures, is, falls, and}
 use Rattle.reader.proofs.scanning.array.Reads as array
 use Rattle.reader.proofs.scanning.array.Kinds as array-kinds
-use Rattle.reader.proofs.scanning.+array+member+object+value.Lts-array as array-lts
+use Rattle.reader.proofs.scanning.+array+item+member+object+value.Lts-array as array-lts
+use Rattle.reader.proofs.scanning.item.Reads as item
+use Rattle.reader.proofs.scanning.item.Kinds as item-kinds
+use Rattle.reader.proofs.scanning.+array+item+member+object+value.Lts-item as item-lts
 use Rattle.reader.proofs.scanning.member.Reads as member
 use Rattle.reader.proofs.scanning.member.Kinds as member-kinds
-use Rattle.reader.proofs.scanning.+array+member+object+value.Lts-member as member-lts
+use Rattle.reader.proofs.scanning.+array+item+member+object+value.Lts-member as member-lts
 use Rattle.reader.proofs.scanning.object.Reads as object
 use Rattle.reader.proofs.scanning.object.Kinds as object-kinds
-use Rattle.reader.proofs.scanning.+array+member+object+value.Lts-object as object-lts
+use Rattle.reader.proofs.scanning.+array+item+member+object+value.Lts-object as object-lts
 use Rattle.reader.proofs.scanning.value.Reads as value
 use Rattle.reader.proofs.scanning.value.Kinds as value-kinds
-use Rattle.reader.proofs.scanning.+array+member+object+value.Lts-value as value-lts
+use Rattle.reader.proofs.scanning.+array+item+member+object+value.Lts-value as value-lts
 use Rattle.chars.proofs.peek.Reads as peek-reads
 use Rattle.chars.proofs.begins.Reads as begins-reads
 use Rattle.chars.proofs.skip.Reads as skip-reads
+use Rattle.chars.proofs.whole_end.Reads as whole-end-reads
 use Rattle.reader.proofs.marks.leaf_mark.Reads as leaf-mark-reads
 use Rattle.reader.proofs.marks.list_mark.Reads as list-mark-reads
 use Rattle.reader.proofs.names.name.Reads as name-reads
@@ -39,26 +44,35 @@ use Rattle.reader.proofs.names.push.Reads as push-reads
 use Rattle.reader.proofs.names.release.Reads as release-reads
 use Rattle.reader.proofs.scanning.leaf.Reads as leaf-reads
 use Rattle.reader.proofs.scanning.refuse.Reads as refuse-reads
-use Rattle.reader.proofs.scanning.+array+member+object+value.{statement}
-use Rattle.reader.proofs.scanning.+array+member+object+value.Tie.{close}
+use Rattle.reader.proofs.scanning.+array+item+member+object+value.{statement}
+use Rattle.reader.proofs.scanning.+array+item+member+object+value.Tie.{close}
 
 abbrev μ-array : Measures 4 array-kinds.ps ℕ
-μ-array κs a = 3 * a .1 .1 .1 .1 .1 .1 .1 .0 + 2
+μ-array κs a = 4 * a .1 .1 .1 .1 .1 .1 .1 .0 + 3
+
+abbrev μ-item : Measures 4 item-kinds.ps ℕ
+μ-item κs a = 4 * a .1 .1 .1 .1 .1 .1 .1 .0 + 1
 
 abbrev μ-member : Measures 4 member-kinds.ps ℕ
-μ-member κs a = 3 * a .1 .1 .1 .1 .1 .1 .1 .1 .0 + 1
+μ-member κs a = 4 * a .1 .1 .1 .1 .1 .1 .1 .1 .0 + 2
 
 abbrev μ-object : Measures 4 object-kinds.ps ℕ
-μ-object κs a = 3 * a .1 .1 .1 .1 .1 .1 .1 .0 + 2
+μ-object κs a = 4 * a .1 .1 .1 .1 .1 .1 .1 .0 + 3
 
 abbrev μ-value : Measures 4 value-kinds.ps ℕ
-μ-value κs a = 3 * a .1 .1 .1 .1 .1 .1 .1 .0
+μ-value κs a = 4 * a .1 .1 .1 .1 .1 .1 .1 .0
 
 abbrev array-at : ℕ → In 4 array-kinds.ps
 array-at t = and 4 array-kinds.ps (is 4 array-kinds.ps μ-array t) array.Pre
 
 abbrev array-below : ℕ → In 4 array-kinds.ps
 array-below t = and 4 array-kinds.ps (falls 4 array-kinds.ps _<_ μ-array t) array.Pre
+
+abbrev item-at : ℕ → In 4 item-kinds.ps
+item-at t = and 4 item-kinds.ps (is 4 item-kinds.ps μ-item t) item.Pre
+
+abbrev item-below : ℕ → In 4 item-kinds.ps
+item-below t = and 4 item-kinds.ps (falls 4 item-kinds.ps _<_ μ-item t) item.Pre
 
 abbrev member-at : ℕ → In 4 member-kinds.ps
 member-at t = and 4 member-kinds.ps (is 4 member-kinds.ps μ-member t) member.Pre
@@ -88,8 +102,8 @@ array-claims t = (
   peek-reads.Learnt,
   list-mark-reads.Asked,
   list-mark-reads.Learnt,
-  value-below t,
-  value.Post,
+  item-below t,
+  item.Post,
   refuse-reads.Asked,
   refuse-reads.Learnt,
 )
@@ -115,11 +129,11 @@ module _ (t : ℕ) where
       let h = v .before .before .before .before in
       let a = h .before .before .before .before .before .before .before .before .args in
       ElementTurn (a .text .now) (a .depth) (a .at) (a .top) (a .row) (a .names .now) (a .heads .now) (a .marks .now)
-      (v .value .last .1 .0) (v .value .last .1 .1 .0) (v .value .last .1 .1 .1 .0)
+      (v .item .last .1 .0) (v .item .last .1 .1 .0) (v .item .last .1 .1 .1 .0)
       (h .loop .rows) (h .loop .children) (h .loop .i) (c .before .end .given .0 .0) (c .before .end .given .0 .1 .0)
   array-turned c =
       let v = c .before .before .before .before .before .before .before .before .before in
-      array-turn (v .before .before .before .before .loop .inv) (v .value .ensures) (v .value .kept .1 .0) (v .value .kept .1 .1 .0) (v .value .kept .1 .1 .1 .0) (c .before .end .given .1)
+      array-turn (v .before .before .before .before .loop .inv) (v .item .ensures) (v .item .kept .1 .0) (v .item .kept .1 .1 .0) (v .item .kept .1 .1 .1 .0) (c .before .end .given .1)
 
   array-add-skip : array-lts.Need-add-skip (array-claims t) (array-at t) array.Post array-Inv-loop array-μ-loop
   array-add-skip c = omega arith
@@ -154,30 +168,30 @@ module _ (t : ℕ) where
   array-loop-holds : array-lts.Need-loop-holds (array-claims t) (array-at t) array.Post array-Inv-loop array-μ-loop
   array-loop-holds c = array-first (array-opened (c .before)) (c .if1 .left)
 
-  array-add-value : array-lts.Need-add-value (array-claims t) (array-at t) array.Post array-Inv-loop array-μ-loop
-  array-add-value c = omega (arith, array-ready (c .before .before .before .loop .inv) .rowed, array-ready (c .before .before .before .loop .inv) .inside)
+  array-add-item : array-lts.Need-add-item (array-claims t) (array-at t) array.Post array-Inv-loop array-μ-loop
+  array-add-item c = omega (arith, array-ready (c .before .before .before .loop .inv) .rowed, array-ready (c .before .before .before .loop .inv) .inside)
 
-  array-value-requires : array-lts.Need-value-requires (array-claims t) (array-at t) array.Post array-Inv-loop array-μ-loop
-  array-value-requires c κs = (omega arith, array-ready (c .before .before .before .loop .inv))
+  array-item-requires : array-lts.Need-item-requires (array-claims t) (array-at t) array.Post array-Inv-loop array-μ-loop
+  array-item-requires c κs = (omega arith, array-ready (c .before .before .before .loop .inv))
 
   array-enum-known-code : array-lts.Need-enum-known-code (array-claims t) (array-at t) array.Post array-Inv-loop array-μ-loop
   array-enum-known-code c = search needs
 
   array-same-length-2 : array-lts.Need-same-length-2 (array-claims t) (array-at t) array.Post array-Inv-loop array-μ-loop
   array-same-length-2 c =
-      let v = c .before .before .before .before .before .before .before .before .before in v .value .kept .1 .0 ∙ v .before .before .before .before .loop .inv .along .long
+      let v = c .before .before .before .before .before .before .before .before .before in v .item .kept .1 .0 ∙ v .before .before .before .before .loop .inv .along .long
 
   array-same-length-3 : array-lts.Need-same-length-3 (array-claims t) (array-at t) array.Post array-Inv-loop array-μ-loop
   array-same-length-3 c =
-      let v = c .before .before .before .before .before .before .before .before .before in v .value .kept .1 .1 .0 ∙ v .before .before .before .before .loop .inv .headed
+      let v = c .before .before .before .before .before .before .before .before .before in v .item .kept .1 .1 .0 ∙ v .before .before .before .before .loop .inv .headed
 
   array-same-length-4 : array-lts.Need-same-length-4 (array-claims t) (array-at t) array.Post array-Inv-loop array-μ-loop
   array-same-length-4 c =
-      let v = c .before .before .before .before .before .before .before .before .before in v .value .kept .1 .1 .1 .0 ∙ v .before .before .before .before .loop .inv .along .marked
+      let v = c .before .before .before .before .before .before .before .before .before in v .item .kept .1 .1 .1 .0 ∙ v .before .before .before .before .loop .inv .along .marked
 
   array-returns-2 : array-lts.Need-returns-2 (array-claims t) (array-at t) array.Post array-Inv-loop array-μ-loop
   array-returns-2 c =
-      let v = c .before .before .before .before .before .before .before .before .before in array-refused (v .before .before .before .before .loop .inv) (v .value .ensures) (c .before .code .given .1)
+      let v = c .before .before .before .before .before .before .before .before .before in array-refused (v .before .before .before .before .loop .inv) (v .item .ensures) (c .before .code .given .1)
 
   array-enum-known-end : array-lts.Need-enum-known-end (array-claims t) (array-at t) array.Post array-Inv-loop array-μ-loop
   array-enum-known-end c = search needs
@@ -250,6 +264,52 @@ module _ (t : ℕ) where
   array-loop-again : array-lts.Need-loop-again (array-claims t) (array-at t) array.Post array-Inv-loop array-μ-loop
   array-loop-again c = array-next (array-turned (c .before .before .before .before .before)) (c .before .before .before .before .skip2 .ensures) (c .before .before .before .peek2 .ensures) (c .before .if3 .left) (c .skip3 .ensures)
 
+-- ---- item
+
+abbrev item-claims : ℕ → item-lts.Claims
+item-claims t = (
+  whole-end-reads.Asked,
+  whole-end-reads.Learnt,
+  leaf-mark-reads.Asked,
+  leaf-mark-reads.Learnt,
+  value-below t,
+  value.Post,
+)
+
+module _ (t : ℕ) where
+  item-whole-end-requires : item-lts.Need-whole-end-requires (item-claims t) (item-at t) item.Post
+  item-whole-end-requires c κs = tt
+
+  item-leaf-mark-requires : item-lts.Need-leaf-mark-requires (item-claims t) (item-at t) item.Post
+  item-leaf-mark-requires c κs = whole-fits (c .before .before .before .before .before .before .pre .1) (c .before .whole-end .ensures) (c .if1 .taken) .0
+
+  item-mul-marks : item-lts.Need-mul-marks (item-claims t) (item-at t) item.Post
+  item-mul-marks c = omega (arith, whole-fits (c .before .before .before .before .before .before .before .pre .1) (c .before .before .whole-end .ensures) (c .before .if1 .taken) .1)
+
+  item-slice-write-marks : item-lts.Need-slice-write-marks (item-claims t) (item-at t) item.Post
+  item-slice-write-marks c = whole-fits (c .before .before .before .before .before .before .before .pre .1) (c .before .before .whole-end .ensures) (c .before .if1 .taken) .1
+
+  item-same-length : item-lts.Need-same-length (item-claims t) (item-at t) item.Post
+  item-same-length c = simp length-set
+
+  item-returns : item-lts.Need-returns (item-claims t) (item-at t) item.Post
+  item-returns c = told-whole (c .before .before .before .before .before .before .before .pre .1) (c .before .before .whole-end .ensures) (c .before .if1 .taken) (c .leaf-mark .ensures)
+
+  item-value-requires : item-lts.Need-value-requires (item-claims t) (item-at t) item.Post
+  item-value-requires c κs = (omega arith, c .before .before .before .before .before .before .before .before .before .pre .1)
+
+  item-same-length-2 : item-lts.Need-same-length-2 (item-claims t) (item-at t) item.Post
+  item-same-length-2 c = c .before .before .before .before .before .before .value .kept .1 .0
+
+  item-same-length-3 : item-lts.Need-same-length-3 (item-claims t) (item-at t) item.Post
+  item-same-length-3 c = c .before .before .before .before .before .before .value .kept .1 .1 .0
+
+  item-same-length-4 : item-lts.Need-same-length-4 (item-claims t) (item-at t) item.Post
+  item-same-length-4 c = c .before .before .before .before .before .before .value .kept .1 .1 .1 .0
+
+  item-returns-2 : item-lts.Need-returns-2 (item-claims t) (item-at t) item.Post
+  item-returns-2 c = c .before .before .before .before .before .before .value .ensures
+
 -- ---- member
 
 abbrev member-claims : ℕ → member-lts.Claims
@@ -266,8 +326,8 @@ member-claims t = (
   peek-reads.Learnt,
   refuse-reads.Asked,
   refuse-reads.Learnt,
-  value-below t,
-  value.Post,
+  item-below t,
+  item.Post,
 )
 
 module _ (t : ℕ) where
@@ -360,14 +420,14 @@ module _ (t : ℕ) where
   member-skip-requires-2 : member-lts.Need-skip-requires-2 (member-claims t) (member-at t) member.Post
   member-skip-requires-2 c κs = tt
 
-  member-add-value : member-lts.Need-add-value (member-claims t) (member-at t) member.Post
-  member-add-value c = omega (arith, named-ready (member-named (c .before .before .before)) .named, named-ready (member-named (c .before .before .before)) .inside)
+  member-add-item : member-lts.Need-add-item (member-claims t) (member-at t) member.Post
+  member-add-item c = omega (arith, named-ready (member-named (c .before .before .before)) .named, named-ready (member-named (c .before .before .before)) .inside)
 
-  member-add-value-2 : member-lts.Need-add-value-2 (member-claims t) (member-at t) member.Post
-  member-add-value-2 c = omega (arith, named-ready (member-named (c .before .before .before)) .rowed, named-ready (member-named (c .before .before .before)) .inside)
+  member-add-item-2 : member-lts.Need-add-item-2 (member-claims t) (member-at t) member.Post
+  member-add-item-2 c = omega (arith, named-ready (member-named (c .before .before .before)) .rowed, named-ready (member-named (c .before .before .before)) .inside)
 
-  member-value-requires : member-lts.Need-value-requires (member-claims t) (member-at t) member.Post
-  member-value-requires c κs = (omega arith, named-ready (member-named (c .before .before .before)))
+  member-item-requires : member-lts.Need-item-requires (member-claims t) (member-at t) member.Post
+  member-item-requires c κs = (omega arith, named-ready (member-named (c .before .before .before)))
 
   member-enum-known-code-2 : member-lts.Need-enum-known-code-2 (member-claims t) (member-at t) member.Post
   member-enum-known-code-2 c = search needs
@@ -377,7 +437,7 @@ module _ (t : ℕ) where
 
   member-add-t45 : member-lts.Need-add-t45 (member-claims t) (member-at t) member.Post
   member-add-t45 c =
-      let v = c .before .before .before .before .before .before .before .before .before in omega (arith, named-rows _ (member-named (v .before .before .before .before)) (v .value .ensures) (c .before .end .given .1))
+      let v = c .before .before .before .before .before .before .before .before .before in omega (arith, named-rows _ (member-named (v .before .before .before .before)) (v .item .ensures) (c .before .end .given .1))
 
   member-same-length-4 : member-lts.Need-same-length-4 (member-claims t) (member-at t) member.Post
   member-same-length-4 c = search needs
@@ -390,35 +450,35 @@ module _ (t : ℕ) where
 
   member-same-length-6 : member-lts.Need-same-length-6 (member-claims t) (member-at t) member.Post
   member-same-length-6 c =
-      let v = c .before .before .before .before .before .before .before .before .before in v .value .kept .1 .0 ∙ v .before .before .before .before .before .before .before .before .before .before .before .before .before .push .kept .0
+      let v = c .before .before .before .before .before .before .before .before .before in v .item .kept .1 .0 ∙ v .before .before .before .before .before .before .before .before .before .before .before .before .before .push .kept .0
 
   member-same-length-7 : member-lts.Need-same-length-7 (member-claims t) (member-at t) member.Post
   member-same-length-7 c =
-      let v = c .before .before .before .before .before .before .before .before .before in v .value .kept .1 .1 .0 ∙ v .before .before .before .before .before .before .before .before .before .before .before .before .before .push .kept .1 .0
+      let v = c .before .before .before .before .before .before .before .before .before in v .item .kept .1 .1 .0 ∙ v .before .before .before .before .before .before .before .before .before .before .before .before .before .push .kept .1 .0
 
   member-same-length-8 : member-lts.Need-same-length-8 (member-claims t) (member-at t) member.Post
   member-same-length-8 c =
-      let v = c .before .before .before .before .before .before .before .before .before in v .value .kept .1 .1 .1 .0 ∙ simp length-set
+      let v = c .before .before .before .before .before .before .before .before .before in v .item .kept .1 .1 .1 .0 ∙ simp length-set
 
   member-returns-3 : member-lts.Need-returns-3 (member-claims t) (member-at t) member.Post
   member-returns-3 c =
-      let v = c .before .before .before .before .before .before .before .before .before in told-valueless _ (member-named (v .before .before .before .before)) (v .value .ensures) (c .before .code2 .given .1)
+      let v = c .before .before .before .before .before .before .before .before .before in told-valueless _ (member-named (v .before .before .before .before)) (v .item .ensures) (c .before .code2 .given .1)
 
   member-same-length-9 : member-lts.Need-same-length-9 (member-claims t) (member-at t) member.Post
   member-same-length-9 c =
-      let v = c .before .before .before .before .before .before .before .before .before in v .value .kept .1 .0 ∙ v .before .before .before .before .before .before .before .before .before .before .before .before .before .push .kept .0
+      let v = c .before .before .before .before .before .before .before .before .before in v .item .kept .1 .0 ∙ v .before .before .before .before .before .before .before .before .before .before .before .before .before .push .kept .0
 
   member-same-length-10 : member-lts.Need-same-length-10 (member-claims t) (member-at t) member.Post
   member-same-length-10 c =
-      let v = c .before .before .before .before .before .before .before .before .before in v .value .kept .1 .1 .0 ∙ v .before .before .before .before .before .before .before .before .before .before .before .before .before .push .kept .1 .0
+      let v = c .before .before .before .before .before .before .before .before .before in v .item .kept .1 .1 .0 ∙ v .before .before .before .before .before .before .before .before .before .before .before .before .before .push .kept .1 .0
 
   member-same-length-11 : member-lts.Need-same-length-11 (member-claims t) (member-at t) member.Post
   member-same-length-11 c =
-      let v = c .before .before .before .before .before .before .before .before .before in v .value .kept .1 .1 .1 .0 ∙ simp length-set
+      let v = c .before .before .before .before .before .before .before .before .before in v .item .kept .1 .1 .1 .0 ∙ simp length-set
 
   member-returns-4 : member-lts.Need-returns-4 (member-claims t) (member-at t) member.Post
   member-returns-4 c =
-      let v = c .before .before .before .before .before .before .before .before .before in told-member _ (member-named (v .before .before .before .before)) (v .value .ensures) (v .value .kept .1 .0) (v .value .kept .1 .1 .1 .0) (c .before .end .given .1)
+      let v = c .before .before .before .before .before .before .before .before .before in told-member _ (member-named (v .before .before .before .before)) (v .item .ensures) (v .item .kept .1 .0) (v .item .kept .1 .1 .1 .0) (c .before .end .given .1)
 
 -- ---- object
 
@@ -691,8 +751,8 @@ module _ (t : ℕ) where
   value-returns-5 : value-lts.Need-returns-5 (value-claims t) (value-at t) value.Post
   value-returns-5 c = told-leaf _ (c .before .before .before .before .before .before .before .before .before .before .before .pre .1) (value-begun (c .before .before .before .before .before)) (c .before .before .before .before .match .keys3) (c .before .before .leaf .ensures)
 
-pub +array+member+object+value-spec : {M : Type 1} → statement M
-+array+member+object+value-spec = close μ-array μ-member μ-object μ-value
+pub +array+item+member+object+value-spec : {M : Type 1} → statement M
++array+item+member+object+value-spec = close μ-array μ-item μ-member μ-object μ-value
     (λ t. array-lts.spec (array-claims t) (array-at t)
     array.Post
     array-Inv-loop
@@ -708,8 +768,8 @@ pub +array+member+object+value-spec : {M : Type 1} → statement M
     (array-same-length t)
     (array-returns t)
     (array-loop-holds t)
-    (array-add-value t)
-    (array-value-requires t)
+    (array-add-item t)
+    (array-item-requires t)
     (array-enum-known-code t)
     (array-same-length-2 t)
     (array-same-length-3 t)
@@ -738,6 +798,19 @@ pub +array+member+object+value-spec : {M : Type 1} → statement M
     (array-skip-requires-3 t)
     (array-loop-less t)
     (array-loop-again t))
+    (λ t. item-lts.spec (item-claims t) (item-at t)
+    item.Post
+    (item-whole-end-requires t)
+    (item-leaf-mark-requires t)
+    (item-mul-marks t)
+    (item-slice-write-marks t)
+    (item-same-length t)
+    (item-returns t)
+    (item-value-requires t)
+    (item-same-length-2 t)
+    (item-same-length-3 t)
+    (item-same-length-4 t)
+    (item-returns-2 t))
     (λ t. member-lts.spec (member-claims t) (member-at t)
     member.Post
     (member-name-requires t)
@@ -756,9 +829,9 @@ pub +array+member+object+value-spec : {M : Type 1} → statement M
     (member-returns t)
     (member-add-skip t)
     (member-skip-requires-2 t)
-    (member-add-value t)
-    (member-add-value-2 t)
-    (member-value-requires t)
+    (member-add-item t)
+    (member-add-item-2 t)
+    (member-item-requires t)
     (member-enum-known-code-2 t)
     (member-enum-known-end t)
     (member-add-t45 t)
