@@ -12,10 +12,10 @@ use Rattle.chars.specs.declared.tokens.Token.the-variants.{Taken, Broken}
 use Rattle.chars.proofs.Facts.{scalar-bounded}
 use Rattle.reader.specs.Rows.{row as rowOf}
 use Rattle.reader.specs.Grammar.{leafAt}
-use Rattle.reader.specs.Marks.{leafMark, rowIn}
+use Rattle.reader.specs.Marks.{leafMark, isName, rowIn}
 use Rattle.reader.specs.Passes.{LeafReady, LeafTold}
 use Rattle.reader.specs.declared.scanning.Scanned.the-variants.{Refused, Value}
-use Rattle.reader.proofs.Marking.{leaf-row}
+use Rattle.reader.proofs.Marking.{leaf-row, leaf-unnamed}
 
 kind-small : (k : Kind) → kindNumber k < 65536
 kind-small Null = omega arith
@@ -50,4 +50,12 @@ module _ {s ms : List ℕ} {row i : ℕ} (h : LeafReady s ms row i) {x : Token} 
     pub leaf-noted : {m : ℕ} → m ≡ leafMark k i e → LeafTold (leafAt s i) (Value e 1) row ms (set ms row m)
     leaf-noted {m} w =
         let f = leaf-fits .0 in
-        rw (taken .1) (record { scan = refl; after = (m, refl, ap rowIn w ∙ leaf-row k i e (f .0) (f .1) (f .2) ∙ ap (λ (y : ℕ). rowOf y i e 0 1) (taken .2)) })
+        rw (taken .1) (record {
+          scan = refl;
+          after = (
+            m,
+            refl,
+            ap rowIn w ∙ leaf-row k i e (f .0) (f .1) (f .2) ∙ ap (λ (y : ℕ). rowOf y i e 0 1) (taken .2),
+            ap isName w ∙ leaf-unnamed k i e (f .0) (f .1) (f .2),
+          );
+        })

@@ -11,7 +11,7 @@ pub mod Marking
 pub mod Words
 pub mod Holding
 pub mod Outcomes
-pub mod Stacks
+pub mod Owners
 pub mod Indexes
 pub mod Searches
 pub mod Leaves

@@ -1,17 +1,18 @@
 -- The rows that marks stand for, and how they are stored one behind the other.
 use mathlib.Core.Path.{_≡_, refl, sym, _∙_}
 use mathlib.Core.List.{List, [], _∷_, _++_, append-assoc, append-nil}
+use mathlib.Core.Bool.{Bool, true, false}
 use Prim.Native.Nat.{ℕ, _+_, _-_, _*_, _/_, _%_, _≤_, _<_}
 use native.Mathlib.Numerals.{add-one}
 use native.Mathlib.Omega.{arith}
 use lib.ListN.{length, take, getD, length-append}
 use lib.Seq.{sets, take-suc, length-take-le}
-use lib.Dec.{eqb}
-use borrow.Author.Tests.{ne-eqb}
+use lib.Dec.{eqb, ltb}
+use borrow.Author.Tests.{ltb-true, lt-ltb, le-ltb, ne-eqb}
 use Rattle.chars.proofs.Facts.{both}
 use Rattle.reader.specs.Rows.{rowWords, row}
 use Rattle.reader.specs.Packing.{firstIn, secondIn, thirdIn, fourthIn}
-use Rattle.reader.specs.Marks.{leafMark, listMark, rowIn, rowsIn}
+use Rattle.reader.specs.Marks.{leafMark, listMark, nameMark, isName, rowIn, rowsIn}
 use Rattle.reader.proofs.Packs.{unpacked}
 use Rattle.reader.proofs.Stores.{sets-append}
 
@@ -19,30 +20,75 @@ use Rattle.reader.proofs.Stores.{sets-append}
 
 -- by the four numbers in it
 module _ (x : ℕ) {a b c d : ℕ} (u : (firstIn x ≡ a) × (secondIn x ≡ b) × (thirdIn x ≡ c) × (fourthIn x ≡ d)) where
-  pub leaf-in : c ≡ 0 → rowIn x ≡ row d a (b + 1) 0 1
+  pub named-in : b < a → isName x ≡ true
+  unfolding isName
+  named-in l = lt-ltb (secondIn x) (firstIn x) (omega (arith, u .0, u .1))
+
+  pub unnamed-in : a ≤ b → isName x ≡ false
+  unfolding isName
+  unnamed-in l = le-ltb (secondIn x) (firstIn x) (omega (arith, u .0, u .1))
+
+  pub name-in : b < a → rowIn x ≡ row 9 b (a + 1) 0 1
   unfolding rowIn
-  leaf-in z = rw (u .0, u .1, u .2, u .3, z)
+  name-in l = rw (named-in l, u .0, u .1)
 
-  pub list-in : (c ≡ 0 → ⊥) → rowIn x ≡ row (7 + d % 2) a (b + 1) (d / 2) c
+  pub leaf-in : a ≤ b → c ≡ 0 → rowIn x ≡ row d a (b + 1) 0 1
   unfolding rowIn
-  list-in z = rw (u .0, u .1, u .2, u .3, ne-eqb c 0 z)
+  leaf-in l z = rw (unnamed-in l, u .0, u .1, u .2, u .3, z)
 
-pub leaf-row : (k f e : ℕ) → k < 65536 → f < e → e ≤ 65536 → rowIn (leafMark k f e) ≡ row k f e 0 1
-leaf-row k f e h i j =
-    let end : e - 1 + 1 ≡ e = omega arith in
-    leaf-in (leafMark k f e) (unpacked f (e - 1) 0 k (omega arith) (omega arith) (omega arith) h) refl ∙ rw end
+  pub list-in : a ≤ b → (c ≡ 0 → ⊥) → rowIn x ≡ row (7 + d % 2) a (b + 1) (d / 2) c
+  unfolding rowIn
+  list-in l z = rw (unnamed-in l, u .0, u .1, u .2, u .3, ne-eqb c 0 z)
 
-pub list-row : (o f e children rows : ℕ) → o < 2 → f < e → e ≤ 65536 → 0 < rows → rows < 65536 → 2 * children + o < 65536
-    → rowIn (listMark o f e children rows) ≡ row (7 + o) f e children rows
-list-row o f e children rows g h i p q r =
-    let end : e - 1 + 1 ≡ e = omega arith in
-    let low : (2 * children + o) % 2 ≡ o = omega arith in
-    let high : (2 * children + o) / 2 ≡ children = omega arith in
-    list-in (listMark o f e children rows) (unpacked f (e - 1) rows (2 * children + o) (omega arith) (omega arith) q r) (λ z. omega arith) ∙ rw (end, low, high)
+-- no name
+pub nothing-unnamed : isName 0 ≡ false
+unfolding isName
+nothing-unnamed = refl
+
+pub named-first : (x : ℕ) → isName x ≡ true → secondIn x < firstIn x
+unfolding isName
+named-first x e = ltb-true (secondIn x) (firstIn x) e
+
+module _ (k f e : ℕ) (h : k < 65536) (i : f < e) (j : e ≤ 65536) where
+  leaf-numbers : let x = leafMark k f e in (firstIn x ≡ f) × (secondIn x ≡ e - 1) × (thirdIn x ≡ 0) × (fourthIn x ≡ k)
+  leaf-numbers = unpacked f (e - 1) 0 k (omega arith) (omega arith) (omega arith) h
+
+  pub leaf-row : rowIn (leafMark k f e) ≡ row k f e 0 1
+  leaf-row = let end : e - 1 + 1 ≡ e = omega arith in leaf-in (leafMark k f e) leaf-numbers (omega arith) refl ∙ rw end
+
+  pub leaf-unnamed : isName (leafMark k f e) ≡ false
+  leaf-unnamed = unnamed-in (leafMark k f e) leaf-numbers (omega arith)
+
+module _ (o f e children rows : ℕ) (g : o < 2) (h : f < e) (i : e ≤ 65536) (p : 0 < rows) (q : rows < 65536) (r : 2 * children + o < 65536) where
+  list-numbers : let x = listMark o f e children rows in (firstIn x ≡ f) × (secondIn x ≡ e - 1) × (thirdIn x ≡ rows) × (fourthIn x ≡ 2 * children + o)
+  list-numbers = unpacked f (e - 1) rows (2 * children + o) (omega arith) (omega arith) q r
+
+  pub list-row : rowIn (listMark o f e children rows) ≡ row (7 + o) f e children rows
+  list-row =
+      let end : e - 1 + 1 ≡ e = omega arith in
+      let low : (2 * children + o) % 2 ≡ o = omega arith in
+      let high : (2 * children + o) / 2 ≡ children = omega arith in
+      list-in (listMark o f e children rows) list-numbers (omega arith) (λ z. omega arith) ∙ rw (end, low, high)
+
+  pub list-unnamed : isName (listMark o f e children rows) ≡ false
+  list-unnamed = unnamed-in (listMark o f e children rows) list-numbers (omega arith)
+
+-- a name, with both its quotes
+module _ (f e link hash : ℕ) (l : f + 2 ≤ e) (m : e ≤ 65536) (k : link < 65536) (h : hash < 65536) where
+  pub name-numbers : let x = nameMark f e link hash in (firstIn x ≡ e - 1) × (secondIn x ≡ f) × (thirdIn x ≡ link) × (fourthIn x ≡ hash)
+  name-numbers = unpacked (e - 1) f link hash (omega arith) (omega arith) k h
+
+  pub name-row : rowIn (nameMark f e link hash) ≡ row 9 f e 0 1
+  name-row = let end : e - 1 + 1 ≡ e = omega arith in name-in (nameMark f e link hash) name-numbers (omega arith) ∙ rw end
+
+  pub name-named : isName (nameMark f e link hash) ≡ true
+  name-named = named-in (nameMark f e link hash) name-numbers (omega arith)
 
 row-length : (x : ℕ) → length (rowIn x) ≡ rowWords
 unfolding rowIn
-row-length x = both (λ (r : List ℕ). length r ≡ rowWords) (eqb (thirdIn x) 0) (λ _. refl) (λ _. refl)
+row-length x =
+    both (λ (r : List ℕ). length r ≡ rowWords) (isName x) (λ _. refl)
+    (λ _. both (λ (r : List ℕ). length r ≡ rowWords) (eqb (thirdIn x) 0) (λ _. refl) (λ _. refl))
 
 -- ---- the rows of marks
 

@@ -1,4 +1,4 @@
--- The first pass on plain values: what each way out of a loop body leaves, on the stack of names, in its index and among the rows that are kept.
+-- The first pass on plain values: what each way out of a loop body leaves, among the rows that are kept and in the index of their names.
 use mathlib.Core.Path.{_≡_, refl, sym, ap, _∙_}
 use mathlib.Core.Logic.{inl, inr}
 use mathlib.Core.List.{List, [], _∷_, _++_, append-nil}
@@ -28,9 +28,8 @@ use Rattle.chars.specs.Hashing.{hashOf}
 use Rattle.reader.specs.Tree.{Node, scalar, array, object, Nodes, none, addNode, Members, no-member, member, addMember}
 use Rattle.reader.specs.Rows.{row as rowOf, count, countMembers, size, sizes, sizesMembers, words, wordsAll, wordsMembers}
 use Rattle.reader.specs.Grammar.{nameOf, itemsAt, listAt, elementAt, arrayAt, nameAt, memberAt, objectAt, leafAt, valueAt}
-use Rattle.reader.specs.Packing.{firstIn}
-use Rattle.reader.specs.Stack.{nameWord, endIn, bucketOf, AreNames, Stacked, Names, Index, hashedOf, NameTold}
-use Rattle.reader.specs.Marks.{leafMark, listMark, rowIn, rowsIn}
+use Rattle.reader.specs.Marks.{leafMark, listMark, nameMark, isName, rowIn, rowsIn}
+use Rattle.reader.specs.Names.{nameFirst, nameEnd, nameIn, ownHash, Owned, Fresh, Within, Kept, bucketOf, Index, NameReady, hashedOf, NameTold}
 use Rattle.reader.specs.Passes.{scanOf, Room, LeafReady, Ready, LeafAfter, LeafTold, Marked, After, Told, MemberReady, MemberMarked, MemberScan, MemberTold}
 use Rattle.reader.specs.declared.scanning.Scanned.{Scanned}
 use Rattle.reader.specs.declared.scanning.Scanned.the-variants.{Refused, Value}
@@ -40,9 +39,10 @@ use Rattle.reader.proofs.Values.{value-deep-array, value-array, value-d
 use Rattle.reader.proofs.Values.{member-parsed, member-bare, member-value, element-reads, member-reads, value-takes, member-takes}
 use Rattle.reader.proofs.Outcomes.{scan-refused, scan-value}
 use Rattle.reader.proofs.Leaves.{leaf-fits, leaf-noted}
-use Rattle.reader.proofs.Marking.{leaf-row, list-row, rows-append, rows-cons, rows-none}
-use Rattle.reader.proofs.Stacks.{stacked-push, names-push, kept-below, slice-push, kept-push}
-use Rattle.reader.proofs.Indexes.{bucket-in, index-head}
+use Rattle.reader.proofs.Marking.{list-row, list-unnamed, name-numbers, name-named, name-row, rows-append, rows-cons, rows-none}
+use Rattle.reader.proofs.Owners.{same-below, fresh-later, fresh-set, within-empty, within-none, within-join, within-wider, within-kept, within-set}
+use Rattle.reader.proofs.Owners.{kept-kept, kept-add, kept-within}
+use Rattle.reader.proofs.Indexes.{bucket-in, index-head, index-plain}
 
 -- ---- parts of a list that is written
 
@@ -66,21 +66,32 @@ slice-header r t x l a b =
     ∙ ap (λ (ys : List ℕ). x ∷ ys) (ap (drop (suc r)) (take-set-lt t l r x a) ∙ drop-set-lt (suc r) (take t l) r x (omega arith))
     ∙ rw add-one
 
+-- what stands below n stands below any smaller m
+kept-below : (m n : ℕ) (l₂ l : List ℕ) → m ≤ n → take n l₂ ≡ take n l → take m l₂ ≡ take m l
+kept-below m n l₂ l h e = sym (take-take m n l₂ h) ∙ ap (take m) e ∙ take-take m n l h
+
+-- x stays where it was written while only what is above it changes
+kept-write : (l l₂ : List ℕ) (t x : ℕ) → t < length l → take (t + 1) l₂ ≡ take (t + 1) (set l t x) → (take t l₂ ≡ take t l) × (getD l₂ t 0 ≡ x)
+kept-write l l₂ t x b k = (
+  kept-below t (t + 1) l₂ (set l t x) (omega arith) k ∙ take-set-le t l t x (omega arith),
+  same-below (t + 1) l₂ (set l t x) k t (omega arith) ∙ getD-set-same l t x 0 b,
+)
+
 -- ---- answers
 
-module _ {o : Parse Node} {top row : ℕ} {ns ms ns₂ hs₂ ms₂ : List ℕ} where
-  pub answer-refused : {c p : ℕ} → o ≡ refused c p → Told o (Refused c p) top row ns ms ns₂ hs₂ ms₂
+module _ {s : List ℕ} {o : Parse Node} {row : ℕ} {ms hs₂ ms₂ : List ℕ} where
+  pub answer-refused : {c p : ℕ} → o ≡ refused c p → Told s o (Refused c p) row ms hs₂ ms₂
   answer-refused q = rw q (record { scan = refl; after = tt })
 
-  answer-value : (n : Node) {e k : ℕ} → o ≡ parsed n e → k ≡ size n → Marked n top row ns ms ns₂ hs₂ ms₂ → Told o (Value e k) top row ns ms ns₂ hs₂ ms₂
+  answer-value : (n : Node) {e k : ℕ} → o ≡ parsed n e → k ≡ size n → Marked s n row ms hs₂ ms₂ → Told s o (Value e k) row ms hs₂ ms₂
   answer-value n {e = e} q z h = rw q (record { scan = ap (Value e) z; after = h })
 
-  answer-bad : (s : List ℕ) (j : ℕ) {r : Scanned} → o ≡ unexpected s j → r ≡ scanOf (unexpected s j) → Told o r top row ns ms ns₂ hs₂ ms₂
-  answer-bad s j q z = rw q (record { scan = z; after = unexpected-both s j (λ x. After x top row ns ms ns₂ hs₂ ms₂) (λ c p _. tt) })
+  answer-bad : (j : ℕ) {r : Scanned} → o ≡ unexpected s j → r ≡ scanOf (unexpected s j) → Told s o r row ms hs₂ ms₂
+  answer-bad j q z = rw q (record { scan = z; after = unexpected-both s j (λ x. After s x row ms hs₂ ms₂) (λ c p _. tt) })
 
   -- what is told of a value that was read
-  value-told : {r : Scanned} {e k : ℕ} → Told o r top row ns ms ns₂ hs₂ ms₂ → r ≡ Value e k
-      → (n : Node) × (o ≡ parsed n e) × (size n ≡ k) × Marked n top row ns ms ns₂ hs₂ ms₂
+  value-told : {r : Scanned} {e k : ℕ} → Told s o r row ms hs₂ ms₂ → r ≡ Value e k
+      → (n : Node) × (o ≡ parsed n e) × (size n ≡ k) × Marked s n row ms hs₂ ms₂
   value-told h q = let v = scan-value o (sym (h .scan) ∙ q) in (v .0, v .1, v .2, rw (v .1) at (h .after))
 
 -- nothing is read behind a refusal
@@ -148,41 +159,60 @@ objectOf s d at = record {
 }
 
 -- the opening byte stands at `at`, and x at i, behind the space after it
-pub record Opened (s ns hs ms : List ℕ) (d top row at i x : ℕ) : Type 0 where
-  pub ready : Ready s ns hs ms (d + 1) top row at
+pub record Opened (s hs ms : List ℕ) (d row at i x : ℕ) : Type 0 where
+  pub ready : Ready s hs ms (d + 1) row at
   pub opens : at < length s
   pub place : i ≡ skip s (at + 1)
   pub byte : x ≡ byteAt s i
 
--- `before` was read so far, and its rows are kept behind the first; the rest of the whole begins at i. Below top and row all is as it was
-pub record Along {L : Type 0} {s : List ℕ} (b : Bracket s L) (o : Parse Node) (before : L) (d top row : ℕ) (ns₀ hs₀ ms₀ ns ms : List ℕ) (rows i : ℕ) : Type 0 where
-  pub ready : Ready s ns₀ hs₀ ms₀ (d + 1) top row (b .at)
+-- `before` was read so far, and its rows are kept behind the first; the rest of the whole begins at i. Up to the first row all is as it was
+pub record Along {L : Type 0} {s : List ℕ} (b : Bracket s L) (o : Parse Node) (before : L) (d row : ℕ) (hs₀ ms₀ ms : List ℕ) (rows i : ℕ) : Type 0 where
+  pub ready : Ready s hs₀ ms₀ (d + 1) row (b .at)
   pub whole : o ≡ then (itemsAt (b .closing) (b .item) s before i) (λ all e. parsed (b .node all e) e)
   pub counted : rows ≡ suc (b .rows before)
   pub spent : b .at + 2 * b .rows before + 1 ≤ i
   pub inside : i ≤ length s
-  pub names : take top ns ≡ take top ns₀
-  pub below : take row ms ≡ take row ms₀
+  pub below : take (row + 1) ms ≡ take (row + 1) ms₀
   pub inner : rowsIn (slice (row + 1) (row + rows) ms) ≡ b .inner before
-  pub long : length ns ≡ length ns₀
   pub marked : length ms ≡ length ms₀
 
 -- one more item was read, up to e, and its rows are kept
-pub record Turn {L : Type 0} {s : List ℕ} (b : Bracket s L) (o : Parse Node) (d top row : ℕ) (ns₀ hs₀ ms₀ ns ms : List ℕ) (rows i e more : ℕ) : Type 0 where
+pub record Turn {L : Type 0} {s : List ℕ} (b : Bracket s L) (o : Parse Node) (d row : ℕ) (hs₀ ms₀ ms : List ℕ) (rows i e more : ℕ) : Type 0 where
   pub before : L
   pub all : L
-  pub along : Along b o before d top row ns₀ hs₀ ms₀ ns ms rows i
+  pub along : Along b o before d row hs₀ ms₀ ms rows i
   pub item : b .item before i ≡ parsed all e
   pub adds : b .rows all ≡ b .rows before + more
   pub kept : b .inner all ≡ b .inner before ++ rowsIn (slice (row + rows) (row + (rows + more)) ms)
+
+-- the rows behind the first stand up to t, and their names are in the index
+pub record Filled (s : List ℕ) (row : ℕ) (hs ms : List ℕ) (t : ℕ) : Type 0 where
+  pub index : Index hs ms
+  pub fresh : Fresh ms t
+  pub owned : Within s ms row (row + 1) t
 
 -- the numbers of a list's mark fit, and there is a place for it
 abbrev pub ListFits : (o at end children rows r w : ℕ) → Type 0
 ListFits o at end children rows r w = ((at < end) × (end ≤ 65536) × (2 * children + o < 65536) × (rows < 65536)) × (r < w)
 
-module _ {s ns hs ms : List ℕ} {d top row at i x : ℕ} (h : Opened s ns hs ms d top row at i x) where
+-- the first row is written: a list's mark, where no name stood
+module _ {s : List ℕ} {row : ℕ} {hs ms : List ℕ} {t : ℕ} (g : Filled s row hs ms t) (l : row < t) (w : row < length ms) (m : ℕ)
+    (free : isName (getD ms row 0) ≡ false) (u : isName m ≡ false) where
+  header-index : Index hs (set ms row m)
+  header-index = index-plain row m free u (g .index)
+
+  header-fresh : Fresh (set ms row m) t
+  header-fresh = fresh-set row m l (g .fresh)
+
+  header-owned : Within s (set ms row m) row row t
+  header-owned = within-join (within-none row (rw (getD-set-same ms row m 0 w) u)) (within-set row m (omega arith) (g .owned))
+
+module _ {s hs ms : List ℕ} {d row at i x : ℕ} (h : Opened s hs ms d row at i x) where
   pub opened-inside : 0 < x → i < length s
   opened-inside l = byte-in s i x l (sym (h .byte))
+
+  opened-filled : Filled s row hs ms (row + 1)
+  opened-filled = record { index = h .ready .index; fresh = fresh-later (omega arith) (h .ready .fresh); owned = within-empty }
 
   module _ {L : Type 0} (b : Bracket s L) (same : at ≡ b .at) (empty : L) (none : b .rows empty ≡ 0) (nobody : b .kids empty ≡ 0) (nothing : b .inner empty ≡ []) where
     abbrev enclosed : Parse Node
@@ -195,16 +225,18 @@ module _ {s ns hs ms : List ℕ} {d top row at i x : ℕ} (h : Opened s ns hs ms
         let k = run-from isSpace s (at + 1) in
         omega (arith, r .room .short, r .room .rows, r .rowed, h .place, b .kind)
 
-    first-close : 0 < x → x ≡ b .closing → Told enclosed (Value (i + 1) 1) top row ns ms ns hs (set ms row (listMark (b .object) at (i + 1) 0 1))
+    first-close : 0 < x → x ≡ b .closing → Told s enclosed (Value (i + 1) 1) row ms hs (set ms row (listMark (b .object) at (i + 1) 0 1))
     first-close l c =
         let f = first-fits l in
         let z : 1 ≡ suc (b .rows empty) = omega arith in
         let m = listMark (b .object) at (i + 1) 0 1 in
         let y : size (b .node empty (i + 1)) ≡ 1 = b .sized empty (i + 1) ∙ sym z in
+        let v = h .ready .fresh .none row (omega arith) in
+        let u : isName m ≡ false = list-unnamed (b .object) at (i + 1) 0 1 (b .kind) (f .0 .0) (f .0 .1) (omega arith) (omega arith) (f .0 .2) in
         answer-value (b .node empty (i + 1)) (rw (list-empty (b .closing) (b .item) s empty at (h .place) (sym (h .byte) ∙ c))) (sym y)
         (record {
-          names = refl;
-          index = h .ready .index;
+          index = header-index opened-filled (omega arith) (f .1) m v u;
+          fresh = rw y (header-fresh opened-filled (omega arith) (f .1) m v u);
           below = take-set-le row ms row m (omega arith);
           rows =
               ap (λ (k : ℕ). rowsIn (slice row (row + k) (set ms row m))) y
@@ -213,9 +245,10 @@ module _ {s ns hs ms : List ℕ} {d top row at i x : ℕ} (h : Opened s ns hs ms
               ∙ ap (λ (ys : List ℕ). rowIn m ++ ys) rows-none
               ∙ ap (λ (ys : List ℕ). ys ++ []) (list-row (b .object) at (i + 1) 0 1 (b .kind) (f .0 .0) (f .0 .1) (omega arith) (omega arith) (f .0 .2))
               ∙ sym (b .spelled empty (i + 1) ∙ rw (← same, nobody, ← z, nothing));
+          owned = rw y (header-owned opened-filled (omega arith) (f .1) m v u);
         })
 
-    first-item : (x ≡ b .closing → ⊥) → Along b enclosed empty d top row ns hs ms ns ms 1 i
+    first-item : (x ≡ b .closing → ⊥) → Along b enclosed empty d row hs ms ms 1 i
     first-item n =
         let l = run-from isSpace s (at + 1) in
         record {
@@ -224,54 +257,45 @@ module _ {s ns hs ms : List ℕ} {d top row at i x : ℕ} (h : Opened s ns hs ms
           counted = omega arith;
           spent = omega (arith, h .place);
           inside = omega (arith, h .place, h .opens, run-within isSpace s (at + 1) (omega (arith, h .opens)));
-          names = refl;
           below = refl;
           inner = ap rowsIn (slice-empty (row + 1) ms) ∙ rows-none ∙ sym nothing;
-          long = refl;
           marked = refl;
         }
 
-module _ {L : Type 0} {s : List ℕ} {b : Bracket s L} {o : Parse Node} {before : L} {d top row : ℕ} {ns₀ hs₀ ms₀ ns ms : List ℕ} {rows i : ℕ}
-    (h : Along b o before d top row ns₀ hs₀ ms₀ ns ms rows i) where
-  along-room : Room s ns ms
-  along-room =
-      let r = h .ready .room in
-      record { short = r .short; names = omega (arith, r .names, h .long); rows = omega (arith, r .rows, h .marked) }
+module _ {L : Type 0} {s : List ℕ} {b : Bracket s L} {o : Parse Node} {before : L} {d row : ℕ} {hs₀ ms₀ ms : List ℕ} {rows i : ℕ}
+    (h : Along b o before d row hs₀ ms₀ ms rows i) where
+  along-room : Room s ms
+  along-room = let r = h .ready .room in record { short = r .short; rows = omega (arith, r .rows, h .marked) }
 
   -- the next item's rows have their place
   along-rowed : 2 * (row + rows) + d ≤ i + 33
   along-rowed = omega (arith, h .ready .rowed, h .counted, h .spent)
 
-  along-ready : {hs : List ℕ} → Index hs ns top → Ready s ns hs ms d top (row + rows) i
-  along-ready x = record {
-    room = along-room;
-    index = x;
-    named = omega (arith, h .ready .named, h .spent);
-    rowed = along-rowed;
-    inside = h .inside;
-  }
+  along-ready : {hs : List ℕ} → Filled s row hs ms (row + rows) → Ready s hs ms d (row + rows) i
+  along-ready g = record { room = along-room; index = g .index; fresh = g .fresh; rowed = along-rowed; inside = h .inside }
 
-  -- the stack is as it was below top, and the rows so far are kept
-  stays : {ns₂ ms₂ : List ℕ} → take top ns₂ ≡ take top ns → take (row + rows) ms₂ ≡ take (row + rows) ms → length ns₂ ≡ length ns → length ms₂ ≡ length ms
-      → Along b o before d top row ns₀ hs₀ ms₀ ns₂ ms₂ rows i
-  stays {ns₂} {ms₂} k l p q = record {
+  -- the first row is as it was found: no name's
+  along-free : isName (getD ms row 0) ≡ false
+  along-free = rw (same-below (row + 1) ms ms₀ (h .below) row (omega arith)) (h .ready .fresh .none row (omega arith))
+
+  -- the rows so far are kept
+  stays : {ms₂ : List ℕ} → take (row + rows) ms₂ ≡ take (row + rows) ms → length ms₂ ≡ length ms → Along b o before d row hs₀ ms₀ ms₂ rows i
+  stays {ms₂} l q = record {
     ready = h .ready;
     whole = h .whole;
     counted = h .counted;
     spent = h .spent;
     inside = h .inside;
-    names = k ∙ h .names;
-    below = kept-below row (row + rows) ms₂ ms (omega arith) l ∙ h .below;
+    below = kept-below (row + 1) (row + rows) ms₂ ms (omega (arith, h .counted)) l ∙ h .below;
     inner = ap rowsIn (slice-kept (row + 1) (row + rows) ms₂ ms l) ∙ h .inner;
-    long = p ∙ h .long;
     marked = q ∙ h .marked;
   }
 
-  turn-refused : {c p : ℕ} {ns₂ hs₂ ms₂ : List ℕ} → b .item before i ≡ refused c p → Told o (Refused c p) top row ns₀ ms₀ ns₂ hs₂ ms₂
+  turn-refused : {c p : ℕ} {hs₂ ms₂ : List ℕ} → b .item before i ≡ refused c p → Told s o (Refused c p) row ms₀ hs₂ ms₂
   turn-refused q = answer-refused (rw (h .whole, items-refused (b .reads) (b .closing) q))
 
-module _ {L : Type 0} {s : List ℕ} {b : Bracket s L} {o : Parse Node} {d top row : ℕ} {ns₀ hs₀ ms₀ ns ms : List ℕ} {rows i e more : ℕ}
-    (t : Turn b o d top row ns₀ hs₀ ms₀ ns ms rows i e more) where
+module _ {L : Type 0} {s : List ℕ} {b : Bracket s L} {o : Parse Node} {d row : ℕ} {hs₀ ms₀ ms : List ℕ} {rows i e more : ℕ}
+    (t : Turn b o d row hs₀ ms₀ ms rows i e more) where
   pub turn-takes : (i < e) × (e ≤ length s) × (rows + more ≤ e) × (b .at + 2 * b .rows (t .all) ≤ e) × (rows + more ≡ suc (b .rows (t .all)))
   turn-takes = omega (arith, item-takes (b .reads) (t .item), t .adds, t .along .counted, t .along .spent)
 
@@ -299,19 +323,20 @@ module _ {L : Type 0} {s : List ℕ} {b : Bracket s L} {o : Parse Node} {d top r
       turn-fits l =
           omega (arith, turn-takes, turn-room l, turn-inside l, t .along .ready .room .short, b .few (t .all), b .kind, k)
 
-      pub turn-close : 0 < x → x ≡ b .closing → {hs₂ : List ℕ} → Index hs₂ ns top
-          → Told o (Value (j + 1) (rows + more)) top row ns₀ ms₀ ns hs₂ (set ms row (listMark (b .object) (b .at) (j + 1) children (rows + more)))
+      pub turn-close : 0 < x → x ≡ b .closing → {hs₂ : List ℕ} → Filled s row hs₂ ms (row + (rows + more))
+          → Told s o (Value (j + 1) (rows + more)) row ms₀ hs₂ (set ms row (listMark (b .object) (b .at) (j + 1) children (rows + more)))
       turn-close l c g =
           let f = turn-fits l in
           let a = t .along in
           let m = listMark (b .object) (b .at) (j + 1) children (rows + more) in
           let u : rows + more ≡ suc (b .rows (t .all)) = turn-takes .4 in
           let w : size (b .node (t .all) (j + 1)) ≡ rows + more = b .sized (t .all) (j + 1) ∙ sym u in
+          let v : isName m ≡ false = list-unnamed (b .object) (b .at) (j + 1) children (rows + more) (b .kind) (f .0 .0) (f .0 .1) (omega arith) (f .0 .3) (f .0 .2) in
           answer-value (b .node (t .all) (j + 1)) (rw (a .whole, items-close (b .reads) (b .closing) (t .item) z (b .other) (sym y ∙ c))) (sym w)
           (record {
-            names = a .names;
-            index = g;
-            below = take-set-le row ms row m (omega arith) ∙ a .below;
+            index = header-index g (omega arith) (f .1) m (along-free a) v;
+            fresh = rw w (header-fresh g (omega arith) (f .1) m (along-free a) v);
+            below = take-set-le row ms row m (omega arith) ∙ kept-below row (row + 1) ms ms₀ (omega arith) (a .below);
             rows =
                 ap (λ (n : ℕ). rowsIn (slice row (row + n) (set ms row m))) w
                 ∙ ap rowsIn (slice-header row (row + (rows + more)) m ms (omega arith) (turn-room l .0))
@@ -320,11 +345,12 @@ module _ {L : Type 0} {s : List ℕ} {b : Bracket s L} {o : Parse Node} {d top r
                 ∙ ap (λ (ys : List ℕ). ys ++ b .inner (t .all))
                 (list-row (b .object) (b .at) (j + 1) children (rows + more) (b .kind) (f .0 .0) (f .0 .1) (omega arith) (f .0 .3) (f .0 .2))
                 ∙ sym (b .spelled (t .all) (j + 1) ∙ rw (← k, ← u));
+            owned = rw w (header-owned g (omega arith) (f .1) m (along-free a) v);
           })
 
-    pub turn-bad : {r : Scanned} {ns₂ hs₂ ms₂ : List ℕ} → (x ≡ b .closing → ⊥) → (x ≡ 0x2C → ⊥) → r ≡ scanOf (unexpected s j) → Told o r top row ns₀ ms₀ ns₂ hs₂ ms₂
+    pub turn-bad : {r : Scanned} {hs₂ ms₂ : List ℕ} → (x ≡ b .closing → ⊥) → (x ≡ 0x2C → ⊥) → r ≡ scanOf (unexpected s j) → Told s o r row ms₀ hs₂ ms₂
     turn-bad m n q =
-        answer-bad s j (rw (t .along .whole, items-bad (b .reads) (b .closing) (t .item) z (λ w. n (y ∙ w)) (λ w. m (y ∙ w)), unexpected-then)) q
+        answer-bad j (rw (t .along .whole, items-bad (b .reads) (b .closing) (t .item) z (λ w. n (y ∙ w)) (λ w. m (y ∙ w)), unexpected-then)) q
 
     module _ (c : x ≡ 0x2C) {i₂ : ℕ} (w : i₂ ≡ skip s (j + 1)) where
       pub turn-on : (i < e) × (e < i₂) × (i₂ ≤ length s)
@@ -332,7 +358,7 @@ module _ {L : Type 0} {s : List ℕ} {b : Bracket s L} {o : Parse Node} {d top r
           let l : j < length s = turn-inside (omega arith) in
           omega (arith, turn-takes, run-from isSpace s e, run-from isSpace s (j + 1), run-within isSpace s (j + 1) (omega arith))
 
-      turn-next : Along b o (t .all) d top row ns₀ hs₀ ms₀ ns ms (rows + more) i₂
+      turn-next : Along b o (t .all) d row hs₀ ms₀ ms (rows + more) i₂
       turn-next =
           let a = t .along in
           record {
@@ -341,406 +367,398 @@ module _ {L : Type 0} {s : List ℕ} {b : Bracket s L} {o : Parse Node} {d top r
             counted = turn-takes .4;
             spent = omega (arith, turn-takes, turn-on);
             inside = turn-on .2;
-            names = a .names;
             below = a .below;
             inner = turn-inner (turn-room (omega arith) .0);
-            long = a .long;
             marked = a .marked;
           }
 
 -- ---- arrays
 
 -- in an array whose bracket stands at `at`, with d more brackets allowed to open in it
-pub record InArray (s : List ℕ) (d at top row : ℕ) (ns₀ hs₀ ms₀ ns hs ms : List ℕ) (rows children i : ℕ) : Type 0 where
+pub record InArray (s : List ℕ) (d at row : ℕ) (hs₀ ms₀ hs ms : List ℕ) (rows children i : ℕ) : Type 0 where
   pub before : Nodes
-  pub along : Along (arrayOf s d at) (arrayAt (valueAt d s) s at) before d top row ns₀ hs₀ ms₀ ns ms rows i
-  pub index : Index hs ns top
+  pub along : Along (arrayOf s d at) (arrayAt (valueAt d s) s at) before d row hs₀ ms₀ ms rows i
+  pub filled : Filled s row hs ms (row + rows)
   pub kids : children ≡ count before
   pub headed : length hs ≡ length hs₀
 
 -- one more element was read, up to e
-pub record ElementTurn (s : List ℕ) (d at top row : ℕ) (ns₀ hs₀ ms₀ ns hs ms : List ℕ) (rows children i e more : ℕ) : Type 0 where
-  pub turn : Turn (arrayOf s d at) (arrayAt (valueAt d s) s at) d top row ns₀ hs₀ ms₀ ns ms rows i e more
-  pub index : Index hs ns top
+pub record ElementTurn (s : List ℕ) (d at row : ℕ) (hs₀ ms₀ hs ms : List ℕ) (rows children i e more : ℕ) : Type 0 where
+  pub turn : Turn (arrayOf s d at) (arrayAt (valueAt d s) s at) d row hs₀ ms₀ ms rows i e more
+  pub filled : Filled s row hs ms (row + (rows + more))
   pub kids : children + 1 ≡ count (turn .all)
   pub headed : length hs ≡ length hs₀
 
-module _ {s ns hs ms : List ℕ} {d top row at i x : ℕ} (h : Opened s ns hs ms d top row at i x) where
+module _ {s hs ms : List ℕ} {d row at i x : ℕ} (h : Opened s hs ms d row at i x) where
   pub array-empty-fits : 0 < x → ListFits 0 at (i + 1) 0 1 row (length ms)
   array-empty-fits = first-fits h (arrayOf s d at) refl none refl refl refl
 
-  pub array-empty : x ≡ 0x5D → Told (arrayAt (valueAt d s) s at) (Value (i + 1) 1) top row ns ms ns hs (set ms row (listMark 0 at (i + 1) 0 1))
+  pub array-empty : x ≡ 0x5D → Told s (arrayAt (valueAt d s) s at) (Value (i + 1) 1) row ms hs (set ms row (listMark 0 at (i + 1) 0 1))
   array-empty q = first-close h (arrayOf s d at) refl none refl refl refl (omega arith) q
 
-  pub array-first : (x ≡ 0x5D → ⊥) → InArray s d at top row ns hs ms ns hs ms 1 0 i
-  array-first n = record { before = none; along = first-item h (arrayOf s d at) refl none refl refl refl n; index = h .ready .index; kids = refl; headed = refl }
+  pub array-first : (x ≡ 0x5D → ⊥) → InArray s d at row hs ms hs ms 1 0 i
+  array-first n = record { before = none; along = first-item h (arrayOf s d at) refl none refl refl refl n; filled = opened-filled h; kids = refl; headed = refl }
 
-module _ {s : List ℕ} {d at top row : ℕ} {ns₀ hs₀ ms₀ ns hs ms : List ℕ} {rows children i : ℕ} (h : InArray s d at top row ns₀ hs₀ ms₀ ns hs ms rows children i) where
-  pub array-ready : Ready s ns hs ms d top (row + rows) i
-  array-ready = along-ready (h .along) (h .index)
+module _ {s : List ℕ} {d at row : ℕ} {hs₀ ms₀ hs ms : List ℕ} {rows children i : ℕ} (h : InArray s d at row hs₀ ms₀ hs ms rows children i) where
+  pub array-ready : Ready s hs ms d (row + rows) i
+  array-ready = along-ready (h .along) (h .filled)
 
-  module _ {r : Scanned} {ns₂ hs₂ ms₂ : List ℕ} (o : Told (valueAt d s i) r top (row + rows) ns ms ns₂ hs₂ ms₂) where
-    pub array-refused : {c p : ℕ} → r ≡ Refused c p → Told (arrayAt (valueAt d s) s at) (Refused c p) top row ns₀ ms₀ ns₂ hs₂ ms₂
+  module _ {r : Scanned} {hs₂ ms₂ : List ℕ} (o : Told s (valueAt d s i) r (row + rows) ms hs₂ ms₂) where
+    pub array-refused : {c p : ℕ} → r ≡ Refused c p → Told s (arrayAt (valueAt d s) s at) (Refused c p) row ms₀ hs₂ ms₂
     array-refused q = turn-refused (h .along) (rw (scan-refused (valueAt d s i) (sym (o .scan) ∙ q)))
 
-    pub array-turn : length ns₂ ≡ length ns → length hs₂ ≡ length hs → length ms₂ ≡ length ms → {e more : ℕ} → r ≡ Value e more
-        → ElementTurn s d at top row ns₀ hs₀ ms₀ ns₂ hs₂ ms₂ rows children i e more
-    array-turn l g k {e} {more} q =
+    pub array-turn : length hs₂ ≡ length hs → length ms₂ ≡ length ms → {e more : ℕ} → r ≡ Value e more
+        → ElementTurn s d at row hs₀ ms₀ hs₂ ms₂ rows children i e more
+    array-turn l k {e} {more} q =
         let v = value-told o q in
         let n = v .0 in
         let m = v .3 in
         let w : row + rows + size n ≡ row + (rows + more) = omega (arith, v .2) in
+        let g : Filled s row hs₂ ms₂ (row + rows + size n) = record {
+          index = m .index;
+          fresh = m .fresh;
+          owned = within-join (within-kept (m .below) (h .filled .owned)) (within-wider (omega arith) (m .owned));
+        } in
         record {
           turn = record {
             before = h .before;
             all = addNode (h .before) n;
-            along = stays (h .along) (m .names) (m .below) l k;
+            along = stays (h .along) (m .below) k;
             item = ap (λ (x : Parse Node). then x (λ n f. parsed (addNode (h .before) n) f)) (v .1);
             adds = omega (arith, sizes-add (h .before) n, v .2);
             kept =
                 wordsAll-add (h .before) n
                 ∙ ap (λ (ys : List ℕ). wordsAll (h .before) ++ ys) (sym (m .rows) ∙ ap (λ (t : ℕ). rowsIn (slice (row + rows) t ms₂)) w);
           };
-          index = m .index;
+          filled = rw w at g;
           kids = omega (arith, h .kids, count-add (h .before) n);
-          headed = g ∙ h .headed;
+          headed = l ∙ h .headed;
         }
 
 -- children are not more than rows
-pub element-few : {s : List ℕ} {d at top row : ℕ} {ns₀ hs₀ ms₀ ns hs ms : List ℕ} {rows children i e more : ℕ}
-    → ElementTurn s d at top row ns₀ hs₀ ms₀ ns hs ms rows children i e more → children + 1 ≤ e
+pub element-few : {s : List ℕ} {d at row : ℕ} {hs₀ ms₀ hs ms : List ℕ} {rows children i e more : ℕ}
+    → ElementTurn s d at row hs₀ ms₀ hs ms rows children i e more → children + 1 ≤ e
 element-few t = omega (arith, t .kids, count-few (t .turn .all), turn-takes (t .turn))
 
-pub array-next : {s : List ℕ} {d at top row : ℕ} {ns₀ hs₀ ms₀ ns hs ms : List ℕ} {rows children i e more j x i₂ : ℕ}
-    → ElementTurn s d at top row ns₀ hs₀ ms₀ ns hs ms rows children i e more
-    → j ≡ skip s e → x ≡ byteAt s j → x ≡ 0x2C → i₂ ≡ skip s (j + 1) → InArray s d at top row ns₀ hs₀ ms₀ ns hs ms (rows + more) (children + 1) i₂
-array-next t z y c w = record { before = t .turn .all; along = turn-next (t .turn) z y c w; index = t .index; kids = t .kids; headed = t .headed }
+pub array-next : {s : List ℕ} {d at row : ℕ} {hs₀ ms₀ hs ms : List ℕ} {rows children i e more j x i₂ : ℕ}
+    → ElementTurn s d at row hs₀ ms₀ hs ms rows children i e more
+    → j ≡ skip s e → x ≡ byteAt s j → x ≡ 0x2C → i₂ ≡ skip s (j + 1) → InArray s d at row hs₀ ms₀ hs ms (rows + more) (children + 1) i₂
+array-next t z y c w = record { before = t .turn .all; along = turn-next (t .turn) z y c w; filled = t .filled; kids = t .kids; headed = t .headed }
 
 -- ---- objects
 
--- in an object whose brace stands at `at`, with its names on the stack from top up to count
-pub record InObject (s : List ℕ) (d at top row : ℕ) (ns₀ hs₀ ms₀ ns hs ms : List ℕ) (rows count i : ℕ) : Type 0 where
+-- in an object whose brace stands at `at`, with its members behind the first row
+pub record InObject (s : List ℕ) (d at row : ℕ) (hs₀ ms₀ hs ms : List ℕ) (rows children i : ℕ) : Type 0 where
   pub before : Members
-  pub along : Along (objectOf s d at) (objectAt (valueAt d s) s at) before d top row ns₀ hs₀ ms₀ ns ms rows i
-  pub index : Index hs ns count
-  pub kids : count ≡ top + countMembers before
+  pub along : Along (objectOf s d at) (objectAt (valueAt d s) s at) before d row hs₀ ms₀ ms rows i
+  pub filled : Filled s row hs ms (row + rows)
+  pub kids : children ≡ countMembers before
   pub headed : length hs ≡ length hs₀
-  pub stacked : Stacked (slice top count ns) before
-  pub names : Names s ns top count
-  pub named : 4 * count + 1 ≤ i
+  pub kept : Kept s row ms (row + 1) before
 
 -- one more member was read, up to e
-pub record MemberTurn (s : List ℕ) (d at top row : ℕ) (ns₀ hs₀ ms₀ ns hs ms : List ℕ) (rows count i e more : ℕ) : Type 0 where
-  pub turn : Turn (objectOf s d at) (objectAt (valueAt d s) s at) d top row ns₀ hs₀ ms₀ ns ms rows i e more
-  pub index : Index hs ns (count + 1)
-  pub kids : count + 1 ≡ top + countMembers (turn .all)
+pub record MemberTurn (s : List ℕ) (d at row : ℕ) (hs₀ ms₀ hs ms : List ℕ) (rows children i e more : ℕ) : Type 0 where
+  pub turn : Turn (objectOf s d at) (objectAt (valueAt d s) s at) d row hs₀ ms₀ ms rows i e more
+  pub filled : Filled s row hs ms (row + (rows + more))
+  pub kids : children + 1 ≡ countMembers (turn .all)
   pub headed : length hs ≡ length hs₀
-  pub stacked : Stacked (slice top (count + 1) ns) (turn .all)
-  pub each : AreNames s (slice top (count + 1) ns)
-  pub named : 4 * count + 1 ≤ i
-  pub takes : i + 4 ≤ e
+  pub kept : Kept s row ms (row + 1) (turn .all)
 
-module _ {s ns hs ms : List ℕ} {d top row at i x : ℕ} (h : Opened s ns hs ms d top row at i x) where
+module _ {s hs ms : List ℕ} {d row at i x : ℕ} (h : Opened s hs ms d row at i x) where
   pub object-empty-fits : 0 < x → ListFits 1 at (i + 1) 0 1 row (length ms)
   object-empty-fits = first-fits h (objectOf s d at) refl no-member refl refl refl
 
-  pub object-empty : x ≡ 0x7D → Told (objectAt (valueAt d s) s at) (Value (i + 1) 1) top row ns ms ns hs (set ms row (listMark 1 at (i + 1) 0 1))
+  pub object-empty : x ≡ 0x7D → Told s (objectAt (valueAt d s) s at) (Value (i + 1) 1) row ms hs (set ms row (listMark 1 at (i + 1) 0 1))
   object-empty q = first-close h (objectOf s d at) refl no-member refl refl refl (omega arith) q
 
-  pub object-first : (x ≡ 0x7D → ⊥) → InObject s d at top row ns hs ms ns hs ms 1 top i
-  object-first n =
-      let r = h .ready in
-      record {
-        before = no-member;
-        along = first-item h (objectOf s d at) refl no-member refl refl refl n;
-        index = r .index;
-        kids = omega arith;
-        headed = refl;
-        stacked = rw slice-empty tt;
-        names = record { ordered = omega arith; stacked = omega (arith, r .room .names, r .named, r .inside); each = rw slice-empty tt };
-        named = omega (arith, r .named, h .place, run-from isSpace s (at + 1));
-      }
+  pub object-first : (x ≡ 0x7D → ⊥) → InObject s d at row hs ms hs ms 1 0 i
+  object-first n = record {
+    before = no-member;
+    along = first-item h (objectOf s d at) refl no-member refl refl refl n;
+    filled = opened-filled h;
+    kids = refl;
+    headed = refl;
+    kept = tt;
+  }
 
 -- what the answer of a member tells
-module _ (s : List ℕ) (before : Members) {r : Scanned} (top row count : ℕ) (ns ms ns₂ hs₂ ms₂ : List ℕ) where
-  member-refused : (o : Parse Members) {c p : ℕ} → MemberScan s before o r top row count ns ms ns₂ hs₂ ms₂ → r ≡ Refused c p → o ≡ refused c p
+module _ (s : List ℕ) (before : Members) {r : Scanned} (w row : ℕ) (ms hs₂ ms₂ : List ℕ) where
+  member-refused : (o : Parse Members) {c p : ℕ} → MemberScan s before o r w row ms hs₂ ms₂ → r ≡ Refused c p → o ≡ refused c p
   member-refused (refused c p) h q = cc
   member-refused (parsed all e) h q = let z = sym (h .1) ∙ q in cc
 
-  member-scanned : (o : Parse Members) {e k : ℕ} → MemberScan s before o r top row count ns ms ns₂ hs₂ ms₂ → r ≡ Value e k
-      → (all : Members) × (o ≡ parsed all e) × MemberMarked s before all k top row count ns ms ns₂ hs₂ ms₂
+  member-scanned : (o : Parse Members) {e k : ℕ} → MemberScan s before o r w row ms hs₂ ms₂ → r ≡ Value e k
+      → (all : Members) × (o ≡ parsed all e) × MemberMarked s before all k w row ms hs₂ ms₂
   member-scanned (refused c p) h q = absurd (let z : _≡_ {A = ℕ} 0 1 = cc in omega arith)
   member-scanned (parsed all f) {e} {k} h q =
       let z : f ≡ e = cc in
       let y : h .0 ≡ k = cc in
       (all, ap (parsed all) z, rw y at (h .2))
 
-module _ {s : List ℕ} {d at top row : ℕ} {ns₀ hs₀ ms₀ ns hs ms : List ℕ} {rows count i : ℕ} (h : InObject s d at top row ns₀ hs₀ ms₀ ns hs ms rows count i) where
-  pub object-ready : MemberReady s ns hs ms d top (row + rows) count i
-  object-ready = record {
-    room = along-room (h .along);
-    index = h .index;
-    named = h .named;
-    rowed = along-rowed (h .along);
-    inside = h .along .inside;
-    names = h .names;
-  }
+module _ {s : List ℕ} {d at row : ℕ} {hs₀ ms₀ hs ms : List ℕ} {rows children i : ℕ} (h : InObject s d at row hs₀ ms₀ hs ms rows children i) where
+  behind-members : row + rows ≡ row + 1 + sizesMembers (h .before)
+  behind-members = omega (arith, h .along .counted)
 
-  module _ {r : Scanned} {ns₂ hs₂ ms₂ : List ℕ} (o : MemberTold s d r top (row + rows) count i ns ms ns₂ hs₂ ms₂) where
-    told : MemberScan s (h .before) (memberAt (valueAt d s) s (h .before) i) r top (row + rows) count ns ms ns₂ hs₂ ms₂
-    told = o .tells (h .before) (h .stacked)
+  pub object-ready : MemberReady s hs ms d row (row + rows) i
+  object-ready = record { ready = along-ready (h .along) (h .filled); before = h .before; kept = h .kept; behind = behind-members }
 
-    pub object-refused : {c p : ℕ} → r ≡ Refused c p → Told (objectAt (valueAt d s) s at) (Refused c p) top row ns₀ ms₀ ns₂ hs₂ ms₂
-    object-refused q = turn-refused (h .along) (member-refused s (h .before) top (row + rows) count ns ms ns₂ hs₂ ms₂ _ told q)
+  module _ {r : Scanned} {hs₂ ms₂ : List ℕ} (o : MemberTold s d r row (row + rows) i ms hs₂ ms₂) where
+    told : MemberScan s (h .before) (memberAt (valueAt d s) s (h .before) i) r row (row + rows) ms hs₂ ms₂
+    told = o .tells (h .before) (h .kept) behind-members
 
-    pub object-turn : length ns₂ ≡ length ns → length hs₂ ≡ length hs → length ms₂ ≡ length ms → {e more : ℕ} → r ≡ Value e more
-        → MemberTurn s d at top row ns₀ hs₀ ms₀ ns₂ hs₂ ms₂ rows count i e more
-    object-turn l g k {e} {more} q =
-        let v = member-scanned s (h .before) top (row + rows) count ns ms ns₂ hs₂ ms₂ _ told q in
+    pub object-refused : {c p : ℕ} → r ≡ Refused c p → Told s (objectAt (valueAt d s) s at) (Refused c p) row ms₀ hs₂ ms₂
+    object-refused q = turn-refused (h .along) (member-refused s (h .before) row (row + rows) ms hs₂ ms₂ _ told q)
+
+    pub object-turn : length hs₂ ≡ length hs → length ms₂ ≡ length ms → {e more : ℕ} → r ≡ Value e more
+        → MemberTurn s d at row hs₀ ms₀ hs₂ ms₂ rows children i e more
+    object-turn g k {e} {more} q =
+        let v = member-scanned s (h .before) row (row + rows) ms hs₂ ms₂ _ told q in
         let m = v .2 in
         let p = member-parsed (valueAt d s) s (h .before) i (v .1) in
         let w : row + rows + more ≡ row + (rows + more) = omega arith in
+        let u : row + 1 + sizesMembers (v .0) ≡ row + (rows + more) = omega (arith, m .adds, h .along .counted) in
+        let a = h .along in
+        let b : row < 65536 = omega (arith, a .ready .rowed, a .ready .inside, a .ready .room .short) in
         record {
           turn = record {
             before = h .before;
             all = v .0;
-            along = stays (h .along) (kept-below top count ns₂ ns (h .names .ordered) (m .names)) (m .below) l k;
+            along = stays (h .along) (m .below) k;
             item = v .1;
             adds = m .adds;
             kept = m .rows ∙ ap (λ (t : ℕ). wordsMembers (h .before) ++ rowsIn (slice (row + rows) t ms₂)) w;
           };
-          index = m .index;
+          filled = record {
+            index = m .index;
+            fresh = rw w at (m .fresh);
+            owned = rw u at (kept-within s row ms₂ (row + 1) (v .0) (omega arith) b (m .kept));
+          };
           kids = omega (arith, h .kids, ap countMembers (p .added), countMembers-add (h .before) i (p .behind) (p .node));
           headed = g ∙ h .headed;
-          stacked = m .stacked;
-          each = m .each;
-          named = h .named;
-          takes = member-takes s d (h .before) i (v .1);
+          kept = m .kept;
         }
 
-module _ {s : List ℕ} {d at top row : ℕ} {ns₀ hs₀ ms₀ ns hs ms : List ℕ} {rows count i e more : ℕ}
-    (t : MemberTurn s d at top row ns₀ hs₀ ms₀ ns hs ms rows count i e more) where
-  -- the stack has room for the names so far
-  pub member-turn-names : Names s ns top (count + 1)
-  member-turn-names =
-      let a = t .turn .along in
-      record {
-        ordered = omega (arith, t .kids);
-        stacked = omega (arith, along-room a .names, t .named, t .takes, turn-takes (t .turn));
-        each = t .each;
-      }
-
-  -- the members are those whose names are on the stack
-  pub member-turn-kids : count + 1 - top ≡ countMembers (t .turn .all)
-  member-turn-kids = omega (arith, t .kids)
+module _ {s : List ℕ} {d at row : ℕ} {hs₀ ms₀ hs ms : List ℕ} {rows children i e more : ℕ}
+    (t : MemberTurn s d at row hs₀ ms₀ hs ms rows children i e more) where
+  -- members are not more than rows
+  pub member-few : children + 1 ≤ e
+  member-few = omega (arith, t .kids, countMembers-few (t .turn .all), turn-takes (t .turn))
 
   pub object-next : {j x i₂ : ℕ} → j ≡ skip s e → x ≡ byteAt s j → x ≡ 0x2C → i₂ ≡ skip s (j + 1)
-      → InObject s d at top row ns₀ hs₀ ms₀ ns hs ms (rows + more) (count + 1) i₂
-  object-next z y c w =
-      let b = turn-on (t .turn) z y c w in
-      record {
-        before = t .turn .all;
-        along = turn-next (t .turn) z y c w;
-        index = t .index;
-        kids = t .kids;
-        headed = t .headed;
-        stacked = t .stacked;
-        names = member-turn-names;
-        named = omega (arith, t .named, t .takes);
-      }
+      → InObject s d at row hs₀ ms₀ hs ms (rows + more) (children + 1) i₂
+  object-next z y c w = record {
+    before = t .turn .all;
+    along = turn-next (t .turn) z y c w;
+    filled = t .filled;
+    kids = t .kids;
+    headed = t .headed;
+    kept = t .kept;
+  }
 
 -- ---- members
 
-hashed-broken : (s : List ℕ) (i : ℕ) (o : Parse Kind) {c p : ℕ} → hashedOf s i o ≡ Broken c p → o ≡ refused c p
-hashed-broken s i (refused c p) q = cc
-hashed-broken s i (parsed k e) q = cc
+module _ (s : List ℕ) (o i : ℕ) where
+  hashed-broken : (x : Parse Kind) {c p : ℕ} → hashedOf s o i x ≡ Broken c p → x ≡ refused c p
+  hashed-broken (refused c p) q = cc
+  hashed-broken (parsed k e) q = cc
 
-hashed-name : (s : List ℕ) (i : ℕ) (o : Parse Kind) {e h : ℕ} → hashedOf s i o ≡ Name e h → (k : Kind) × (o ≡ parsed k e) × (h ≡ hashOf (nameOf s i e))
-hashed-name s i (refused c p) q = absurd (let z : _≡_ {A = ℕ} 0 1 = cc in omega arith)
-hashed-name s i (parsed k f) {e} {h} q =
-    let z : f ≡ e = cc in
-    let y : hashOf (nameOf s i f) ≡ h = cc in
-    (k, ap (parsed k) z, sym y ∙ ap (λ (x : ℕ). hashOf (nameOf s i x)) z)
+  hashed-name : (x : Parse Kind) {e h : ℕ} → hashedOf s o i x ≡ Name e h → (k : Kind) × (x ≡ parsed k e) × (h ≡ ownHash o (nameOf s i e))
+  hashed-name (refused c p) q = absurd (let z : _≡_ {A = ℕ} 0 1 = cc in omega arith)
+  hashed-name (parsed k f) {e} {h} q =
+      let z : f ≡ e = cc in
+      let y : ownHash o (nameOf s i f) ≡ h = cc in
+      (k, ap (parsed k) z, sym y ∙ ap (λ (x : ℕ). ownHash o (nameOf s i x)) z)
 
--- members with the names of a stack
-members-of : List ℕ → Members
-members-of [] = no-member
-members-of (x ∷ xs) = member (firstIn x) (endIn x) (scalar Null 0 0) (members-of xs)
-
-stacked-of : (xs : List ℕ) → Stacked xs (members-of xs)
-unfolding members-of
-stacked-of [] = tt
-stacked-of (x ∷ xs) = (refl, refl, stacked-of xs)
-
--- a name was read from i up to e, with this hash
-pub record NameRead (s stack : List ℕ) (i e hash : ℕ) : Type 0 where
-  pub tells : (before : Members) → Stacked stack before → (k : Kind) × (nameAt s before i ≡ parsed k e)
-  pub hashed : hash ≡ hashOf (nameOf s i e)
+-- a name was read from i up to e, with this hash in the object at row o
+pub record NameRead (s ms : List ℕ) (o i e hash : ℕ) : Type 0 where
+  pub tells : (before : Members) → Kept s o ms (o + 1) before → Fresh ms (o + 1 + sizesMembers before) → (k : Kind) × (nameAt s before i ≡ parsed k e)
+  pub hashed : hash ≡ ownHash o (nameOf s i e)
   pub takes : i + 2 ≤ e
   pub within : e ≤ length s
 
-module _ {s stack : List ℕ} {i : ℕ} {r : Hashed} (o : NameTold s stack i r) where
-  pub name-read : {e h : ℕ} → r ≡ Name e h → NameRead s stack i e h
-  name-read {e} {h} q =
-      let m = members-of stack in
-      let n = reads m (stacked-of stack) in
+module _ {s hs ms : List ℕ} {d o row i : ℕ} (m : MemberReady s hs ms d o row i) where
+  -- no name stands behind the members
+  fresh-behind : (before : Members) → row ≡ o + 1 + sizesMembers before → Fresh ms (o + 1 + sizesMembers before)
+  fresh-behind before z = rw z at (m .ready .fresh)
+
+  pub name-ready : NameReady s hs ms o
+  name-ready =
+      let r = m .ready in
       record {
-        tells = λ before k. let x = reads before k in (x .0, x .1);
+        index = r .index;
+        small = omega (arith, m .behind, r .rowed, r .inside, r .room .short);
+        before = m .before;
+        kept = m .kept;
+        fresh = fresh-behind (m .before) (m .behind);
+      }
+
+  pub name-read : {r : Hashed} {e h : ℕ} → NameTold s ms o i r → r ≡ Name e h → NameRead s ms o i e h
+  name-read {r} {e} {h} t q =
+      let n = reads (m .before) (m .kept) (fresh-behind (m .before) (m .behind)) in
+      record {
+        tells = λ before k f. let x = reads before k f in (x .0, x .1);
         hashed = n .2;
-        takes = name-takes s m i (n .1);
-        within = (rw (n .1) at (name-within s m i)) .1;
+        takes = name-takes s (m .before) i (n .1);
+        within = (rw (n .1) at (name-within s (m .before) i)) .1;
       }
     where
-      reads : (before : Members) → Stacked stack before → (k : Kind) × (nameAt s before i ≡ parsed k e) × (h ≡ hashOf (nameOf s i e))
-      reads before k = hashed-name s i (nameAt s before i) (sym (o .tells before k) ∙ q)
+      reads : (before : Members) → Kept s o ms (o + 1) before → Fresh ms (o + 1 + sizesMembers before)
+          → (k : Kind) × (nameAt s before i ≡ parsed k e) × (h ≡ ownHash o (nameOf s i e))
+      reads before k f = hashed-name s o i (nameAt s before i) (sym (t .tells before k f) ∙ q)
 
--- the name is on the stack ns₁ with the index hs₁, and its row is kept; a colon stands behind the name, and its value at k
-pub record Named (s ns hs ms ns₁ hs₁ ms₁ : List ℕ) (d top row count i k : ℕ) : Type 0 where
-  pub ready : MemberReady s ns hs ms d top row count i
+  -- there is room for a name's row
+  pub name-room : {e hash : ℕ} → NameRead s ms o i e hash → (row < length ms) × (e ≤ 65536) × (hash < 65536)
+  name-room n = let r = m .ready in omega (arith, r .room .short, r .room .rows, r .rowed, n .takes, n .within, n .hashed)
+
+  -- the link of its mark is a row
+  pub name-link : {e hash : ℕ} → NameRead s ms o i e hash → getD hs (bucketOf (length hs) hash) 0 < 65536
+  name-link n = let x = m .ready .index in index-head x (bucket-in _ _ (name-room n .2) (x .some))
+
+-- the name's row is kept among the marks ms₁ with the index hs₁; a colon stands behind the name, and its value at k
+pub record Named (s hs ms hs₁ ms₁ : List ℕ) (d o row i k : ℕ) : Type 0 where
+  pub ready : MemberReady s hs ms d o row i
   pub end : ℕ
   pub hash : ℕ
   pub link : ℕ
-  pub name : NameRead s (slice top count ns) i end hash
+  pub name : NameRead s ms o i end hash
   pub small : link < 65536
-  pub pushed : ns₁ ≡ set ns count (nameWord i end link hash)
-  pub index : Index hs₁ ns₁ (count + 1)
-  pub noted : ms₁ ≡ set ms row (leafMark 9 i end)
+  pub pushed : ms₁ ≡ set ms row (nameMark i end link hash)
+  pub index : Index hs₁ ms₁
   pub colon : ℕ
   pub place : colon ≡ skip s end
   pub sign : byteAt s colon ≡ 0x3A
   pub starts : k ≡ skip s (colon + 1)
 
 -- a refusal is the answer of a member too
-scan-bad : (s : List ℕ) (before : Members) (j : ℕ) (r : Scanned) (top row count : ℕ) (ns ms ns₂ hs₂ ms₂ : List ℕ) → r ≡ scanOf (unexpected s j)
-    → MemberScan s before (unexpected s j) r top row count ns ms ns₂ hs₂ ms₂
+scan-bad : (s : List ℕ) (before : Members) (j : ℕ) (r : Scanned) (o row : ℕ) (ms hs₂ ms₂ : List ℕ) → r ≡ scanOf (unexpected s j)
+    → MemberScan s before (unexpected s j) r o row ms hs₂ ms₂
 unfolding unexpected
-scan-bad s before j r top row count ns ms ns₂ hs₂ ms₂ = go (ltb j (length s))
+scan-bad s before j r o row ms hs₂ ms₂ = go (ltb j (length s))
   where
     go : (b : Bool) → r ≡ scanOf (cond b (refused 3 j) (refused 2 (length s)))
-        → MemberScan s before (cond b (refused 3 j) (refused 2 (length s))) r top row count ns ms ns₂ hs₂ ms₂
+        → MemberScan s before (cond b (refused 3 j) (refused 2 (length s))) r o row ms hs₂ ms₂
     go true q = q
     go false q = q
 
 -- a byte stands behind the name and the space after it
-pub name-behind : {s stack : List ℕ} {i e hash j x : ℕ} → NameRead s stack i e hash → x ≡ byteAt s j → 0 < x → j < length s
+pub name-behind : {s ms : List ℕ} {o i e hash j x : ℕ} → NameRead s ms o i e hash → x ≡ byteAt s j → 0 < x → j < length s
 name-behind {s} {j = j} {x = x} _ y l = byte-in s j x l (sym y)
 
--- there is room for a name's word and row
-pub name-room : {s ns hs ms stack : List ℕ} {d top row count i e hash : ℕ} → MemberReady s ns hs ms d top row count i → NameRead s stack i e hash
-    → (count < length ns) × (count < 65535) × (row < length ms) × (e ≤ 65536) × (hash < 65536)
-name-room {s} {i = i} {e = e} {hash = hash} r n =
-    let h : hash < 65536 = omega (arith, n .hashed, hash-small (nameOf s i e)) in
-    omega (arith, r .room .short, r .room .names, r .room .rows, r .named, r .rowed, r .inside, n .takes, n .within)
-
--- the link of its word is a place on the stack
-pub name-link : {s ns hs ms stack : List ℕ} {d top row count i e hash : ℕ} → MemberReady s ns hs ms d top row count i → NameRead s stack i e hash
-    → getD hs (bucketOf (length hs) hash) 0 < 65536
-name-link r n =
-    let m = name-room r n in
-    omega (arith, m .1, index-head (r .index) (bucket-in _ _ (m .4) (r .index .some)))
-
-module _ {s ns hs ms ns₁ hs₁ ms₁ : List ℕ} {d top row count i k : ℕ} (m : Named s ns hs ms ns₁ hs₁ ms₁ d top row count i k) where
-  word : ℕ
-  word = nameWord i (m .end) (m .link) (m .hash)
-
-  -- a name takes three bytes with its colon, so there is room for it and for those in its value
-  pub named-ready : Ready s ns₁ hs₁ ms₁ d (count + 1) (row + 1) k
+module _ {s hs ms hs₁ ms₁ : List ℕ} {d o row i k : ℕ} (m : Named s hs ms hs₁ ms₁ d o row i k) where
+  -- a name takes three bytes with its colon, so there is room for its row and for those of its value
+  pub named-ready : Ready s hs₁ ms₁ d (row + 1) k
   named-ready =
-      let r = m .ready in
+      let r = m .ready .ready in
       let j = m .colon in
       let b = byte-in s j 0x3A (omega arith) (m .sign) in
-      let l = ap length (m .pushed) ∙ length-set ns count (nameWord i (m .end) (m .link) (m .hash)) in
-      let p = ap length (m .noted) ∙ length-set ms row (leafMark 9 i (m .end)) in
+      let w = nameMark i (m .end) (m .link) (m .hash) in
+      let p = ap length (m .pushed) ∙ length-set ms row w in
       let c = run-from isSpace s (m .end) in
       let e = run-from isSpace s (j + 1) in
       record {
-        room = record { short = r .room .short; names = omega (arith, r .room .names, l); rows = omega (arith, r .room .rows, p) };
+        room = record { short = r .room .short; rows = omega (arith, r .room .rows, p) };
         index = m .index;
-        named = omega (arith, r .named, m .name .takes, m .place, m .starts);
+        fresh = rw (m .pushed) (fresh-set row w (omega arith) (fresh-later (omega arith) (r .fresh)));
         rowed = omega (arith, r .rowed, m .name .takes, m .place, m .starts);
         inside = omega (arith, m .starts, run-within isSpace s (j + 1) (omega arith));
       }
 
 -- what each way through a member leaves: no name, no colon, no value, or all three
-module _ {s ns ms : List ℕ} {top row count i : ℕ} (d : ℕ) where
-  pub told-unnamed : {r : Hashed} {c p : ℕ} {ns₂ hs₂ ms₂ : List ℕ} → NameTold s (slice top count ns) i r → r ≡ Broken c p
-      → MemberTold s d (Refused c p) top row count i ns ms ns₂ hs₂ ms₂
-  told-unnamed o q = record { tells = λ before h. rw (hashed-broken s i (nameAt s before i) (sym (o .tells before h) ∙ q)) }
-
-  pub told-bare : {e hash j : ℕ} {r : Scanned} {ns₂ hs₂ ms₂ : List ℕ} → NameRead s (slice top count ns) i e hash → j ≡ skip s e → (byteAt s j ≡ 0x3A → ⊥)
-      → r ≡ scanOf (unexpected s j) → MemberTold s d r top row count i ns ms ns₂ hs₂ ms₂
-  told-bare {j = j} {r = r} n z b q = record {
-    tells = λ before h. rw (member-bare (valueAt d s) s before i (n .tells before h .1) z b) (scan-bad s before j r top row count ns ms _ _ _ q);
+module _ {s hs ms : List ℕ} {d o row i : ℕ} (m : MemberReady s hs ms d o row i) where
+  pub told-unnamed : {r : Hashed} {c p : ℕ} {hs₂ ms₂ : List ℕ} → NameTold s ms o i r → r ≡ Broken c p → MemberTold s d (Refused c p) o row i ms hs₂ ms₂
+  told-unnamed t q = record {
+    tells = λ before h z. rw (hashed-broken s o i (nameAt s before i) (sym (t .tells before h (fresh-behind m before z)) ∙ q));
   }
 
-  module _ {hs ns₁ hs₁ ms₁ : List ℕ} {k : ℕ} {r : Scanned} {ns₂ hs₂ ms₂ : List ℕ} (m : Named s ns hs ms ns₁ hs₁ ms₁ d top row count i k)
-      (o : Told (valueAt d s k) r (count + 1) (row + 1) ns₁ ms₁ ns₂ hs₂ ms₂) where
-    -- the member is what is made of its value
-    valued : (before : Members) → Stacked (slice top count ns) before → memberAt (valueAt d s) s before i ≡ then (valueAt d s k) (λ n p. parsed (addMember before i (m .end) n) p)
-    valued before h = member-value (valueAt d s) s before i (m .name .tells before h .1) (m .place) (m .sign) ∙ rw (m .starts)
+  pub told-bare : {e hash j : ℕ} {r : Scanned} {hs₂ ms₂ : List ℕ} → NameRead s ms o i e hash → j ≡ skip s e → (byteAt s j ≡ 0x3A → ⊥)
+      → r ≡ scanOf (unexpected s j) → MemberTold s d r o row i ms hs₂ ms₂
+  told-bare {j = j} {r = r} n w b q = record {
+    tells = λ before h z. rw (member-bare (valueAt d s) s before i (n .tells before h (fresh-behind m before z) .1) w b) (scan-bad s before j r o row ms _ _ q);
+  }
 
-    pub named-rows : {f rows : ℕ} → r ≡ Value f rows → rows < 65536
-    named-rows q =
-        let v = value-told o q in
-        omega (arith, value-takes s d (v .1), v .2, m .ready .room .short)
+module _ {s hs ms hs₁ ms₁ : List ℕ} {d o row i k : ℕ} {r : Scanned} {hs₂ ms₂ : List ℕ} (m : Named s hs ms hs₁ ms₁ d o row i k)
+    (t : Told s (valueAt d s k) r (row + 1) ms₁ hs₂ ms₂) where
+  -- the member is what is made of its value
+  valued : (before : Members) → Kept s o ms (o + 1) before → row ≡ o + 1 + sizesMembers before
+      → memberAt (valueAt d s) s before i ≡ then (valueAt d s k) (λ n p. parsed (addMember before i (m .end) n) p)
+  valued before h z = member-value (valueAt d s) s before i (m .name .tells before h (fresh-behind (m .ready) before z) .1) (m .place) (m .sign) ∙ rw (m .starts)
 
-    pub told-valueless : {c p : ℕ} → r ≡ Refused c p → MemberTold s d (Refused c p) top row count i ns ms ns₂ hs₂ ms₂
-    told-valueless q = record {
-      tells = λ before h. rw (valued before h, scan-refused (valueAt d s k) (sym (o .scan) ∙ q));
-    }
+  pub named-rows : {f rows : ℕ} → r ≡ Value f rows → rows < 65536
+  named-rows q =
+      let v = value-told t q in
+      omega (arith, value-takes s d (v .1), v .2, m .ready .ready .room .short)
 
-    module _ {f rows : ℕ} (l : length ns₂ ≡ length ns₁) (p : length ms₂ ≡ length ms₁) (q : r ≡ Value f rows) where
-      abbrev read : (n : Node) × (valueAt d s k ≡ parsed n f) × (size n ≡ rows) × Marked n (count + 1) (row + 1) ns₁ ms₁ ns₂ hs₂ ms₂
-      read = value-told o q
+  pub told-valueless : {c p : ℕ} → r ≡ Refused c p → MemberTold s d (Refused c p) o row i ms hs₂ ms₂
+  told-valueless q = record {
+    tells = λ before h z. rw (valued before h z, scan-refused (valueAt d s k) (sym (t .scan) ∙ q));
+  }
 
-      room : (count < length ns) × (count < 65535) × (row < length ms) × (m .end ≤ 65536) × (m .hash < 65536)
-      room = name-room (m .ready) (m .name)
+  module _ {f rows : ℕ} (p : length ms₂ ≡ length ms₁) (q : r ≡ Value f rows) where
+    abbrev read : (n : Node) × (valueAt d s k ≡ parsed n f) × (size n ≡ rows) × Marked s n (row + 1) ms₁ hs₂ ms₂
+    read = value-told t q
 
-      kept-word : (take count ns₂ ≡ take count ns) × (getD ns₂ count 0 ≡ nameWord i (m .end) (m .link) (m .hash))
-      kept-word = kept-push ns ns₂ count (nameWord i (m .end) (m .link) (m .hash)) (room .0) (read .3 .names ∙ ap (take (count + 1)) (m .pushed))
+    abbrev mark : ℕ
+    mark = nameMark i (m .end) (m .link) (m .hash)
 
-      kept-mark : (take row ms₂ ≡ take row ms) × (getD ms₂ row 0 ≡ leafMark 9 i (m .end))
-      kept-mark = kept-push ms ms₂ row (leafMark 9 i (m .end)) (room .2) (read .3 .below ∙ ap (take (row + 1)) (m .noted))
+    room : (row < length ms) × (m .end ≤ 65536) × (m .hash < 65536)
+    room = name-room (m .ready) (m .name)
 
-      stack : slice top (count + 1) ns₂ ≡ slice top count ns ++ (nameWord i (m .end) (m .link) (m .hash) ∷ [])
-      stack =
-          let w = ap length (m .pushed) ∙ length-set ns count (nameWord i (m .end) (m .link) (m .hash)) in
-          slice-push ns₂ ns top count (nameWord i (m .end) (m .link) (m .hash)) (kept-word .0) (kept-word .1) (m .ready .names .ordered)
-          (omega (arith, room .0, w))
+    kept-mark : (take row ms₂ ≡ take row ms) × (getD ms₂ row 0 ≡ mark)
+    kept-mark = kept-write ms ms₂ row mark (room .0) (read .3 .below ∙ ap (take (row + 1)) (m .pushed))
 
-      -- the rows of the name and of its value
-      member-rows : rowsIn (slice row (row + (rows + 1)) ms₂) ≡ rowOf 9 i (m .end) 0 1 ++ words (read .0)
-      member-rows =
-          let w = ap length (m .noted) ∙ length-set ms row (leafMark 9 i (m .end)) in
-          let v = value-takes s d (read .1) in
-          let c : row + (rows + 1) ≤ length ms₂ = omega (arith, named-ready m .rowed, named-ready m .room .rows, v, read .2) in
-          let e : row + (rows + 1) ≡ row + 1 + size (read .0) = omega (arith, read .2) in
-          ap rowsIn (slice-cons row (row + (rows + 1)) ms₂ 0 (omega arith) c)
-          ∙ rows-cons (getD ms₂ row 0) (slice (suc row) (row + (rows + 1)) ms₂)
-          ∙ ap (λ (x : ℕ). rowIn x ++ rowsIn (slice (suc row) (row + (rows + 1)) ms₂)) (kept-mark .1)
-          ∙ ap (λ (ys : List ℕ). ys ++ rowsIn (slice (suc row) (row + (rows + 1)) ms₂)) (leaf-row 9 i (m .end) (omega arith) (omega (arith, m .name .takes)) (room .3))
-          ∙ ap (λ (ys : List ℕ). rowOf 9 i (m .end) 0 1 ++ ys) (ap (λ (t : ℕ). rowsIn (slice (suc row) t ms₂)) e ∙ rw (← add-one) (read .3 .rows))
-
-      pub told-member : MemberTold s d (Value f (rows + 1)) top row count i ns ms ns₂ hs₂ ms₂
-      told-member =
-          let t = m .ready in
-          let e = m .end in
-          let n = read .0 in
+    -- it is a name of the object
+    owned-mark : Owned s o mark × (nameFirst mark ≡ i) × (nameEnd mark ≡ m .end)
+    owned-mark =
+        let n = m .name in
+        let u = name-numbers i (m .end) (m .link) (m .hash) (n .takes) (room .1) (m .small) (room .2) in
+        let e : nameEnd mark ≡ m .end = omega (arith, u .0, n .takes) in
+        let c : nameIn s mark ≡ nameOf s i (m .end) = ap (λ (x : ℕ). nameOf s x (nameEnd mark)) (u .1) ∙ ap (nameOf s i) e in (
           record {
-            tells = λ before h. rw (valued before h, read .1) (
-              rows + 1,
-              refl,
-              record {
-                adds = omega (arith, sizesMembers-add before i e n, read .2);
-                stacked = rw stack (stacked-push (slice top count ns) before i e (m .link) (m .hash) n (omega (arith, m .name .takes)) (room .3) (m .small) (room .4) h);
-                each = rw stack (names-push s (slice top count ns) i e (m .link) (m .hash) (t .names .each) (m .name .takes) (m .name .within) (t .room .short) (m .small) (m .name .hashed));
-                names = kept-word .0;
-                index = read .3 .index;
-                below = kept-mark .0;
-                rows = wordsMembers-add before i e n ∙ ap (λ (ys : List ℕ). wordsMembers before ++ ys) (sym member-rows);
-              },
-            );
-          }
+            named = name-named i (m .end) (m .link) (m .hash) (n .takes) (room .1) (m .small) (room .2);
+            quoted = omega (arith, u .1, e, n .takes);
+            within = omega (arith, e, n .within);
+            hashed = u .3 ∙ n .hashed ∙ ap (ownHash o) (sym c);
+          },
+          u .1,
+          e,
+        )
+
+    -- the rows of the name and of its value
+    member-rows : rowsIn (slice row (row + (rows + 1)) ms₂) ≡ rowOf 9 i (m .end) 0 1 ++ words (read .0)
+    member-rows =
+        let w = ap length (m .pushed) ∙ length-set ms row mark in
+        let v = value-takes s d (read .1) in
+        let c : row + (rows + 1) ≤ length ms₂ = omega (arith, named-ready m .rowed, named-ready m .room .rows, v, read .2) in
+        let e : row + (rows + 1) ≡ row + 1 + size (read .0) = omega (arith, read .2) in
+        ap rowsIn (slice-cons row (row + (rows + 1)) ms₂ 0 (omega arith) c)
+        ∙ rows-cons (getD ms₂ row 0) (slice (suc row) (row + (rows + 1)) ms₂)
+        ∙ ap (λ (x : ℕ). rowIn x ++ rowsIn (slice (suc row) (row + (rows + 1)) ms₂)) (kept-mark .1)
+        ∙ ap (λ (ys : List ℕ). ys ++ rowsIn (slice (suc row) (row + (rows + 1)) ms₂))
+        (name-row i (m .end) (m .link) (m .hash) (m .name .takes) (room .1) (m .small) (room .2))
+        ∙ ap (λ (ys : List ℕ). rowOf 9 i (m .end) 0 1 ++ ys) (ap (λ (t : ℕ). rowsIn (slice (suc row) t ms₂)) e ∙ rw (← add-one) (read .3 .rows))
+
+    pub told-member : MemberTold s d (Value f (rows + 1)) o row i ms hs₂ ms₂
+    told-member =
+        let e = m .end in
+        let n = read .0 in
+        let w : row + 1 + size n ≡ row + (rows + 1) = omega (arith, read .2) in
+        let own : Owned s o (getD ms₂ row 0) × (nameFirst (getD ms₂ row 0) ≡ i) × (nameEnd (getD ms₂ row 0) ≡ e) = rw (kept-mark .1) owned-mark in
+        record {
+          tells = λ before h z. rw (valued before h z, read .1) (
+            rows + 1,
+            refl,
+            record {
+              adds = omega (arith, sizesMembers-add before i e n, read .2);
+              index = read .3 .index;
+              fresh = rw w at (read .3 .fresh);
+              below = kept-mark .0;
+              rows = wordsMembers-add before i e n ∙ ap (λ (ys : List ℕ). wordsMembers before ++ ys) (sym member-rows);
+              kept =
+                  kept-add s o ms₂ (o + 1) before i e n row z (kept-kept s o ms ms₂ (o + 1) before row (kept-mark .0) (omega arith) h)
+                  (own .0) (own .1) (own .2) (read .3 .owned);
+            },
+          );
+        }
 
 -- ---- values
 
@@ -755,58 +773,62 @@ module _ {s : List ℕ} {i : ℕ} {f : First} (b : Begun s i f) where
   pub object-in : f ≡ Object → i < length s
   object-in q = byte-in s i 0x7B (omega arith) (first-object (byteAt s i) (sym (b .first) ∙ q))
 
-  module _ (d : ℕ) {top row : ℕ} {ns ms ns₂ hs₂ ms₂ : List ℕ} where
-    pub array-deep : f ≡ Array → d ≡ 0 → Told (valueAt d s i) (Refused 7 i) top row ns ms ns₂ hs₂ ms₂
+  module _ (d : ℕ) {row : ℕ} {ms hs₂ ms₂ : List ℕ} where
+    pub array-deep : f ≡ Array → d ≡ 0 → Told s (valueAt d s i) (Refused 7 i) row ms hs₂ ms₂
     array-deep q n = answer-refused (value-deep-array d s i (sym (b .first) ∙ q) n)
 
-    pub object-deep : f ≡ Object → d ≡ 0 → Told (valueAt d s i) (Refused 7 i) top row ns ms ns₂ hs₂ ms₂
+    pub object-deep : f ≡ Object → d ≡ 0 → Told s (valueAt d s i) (Refused 7 i) row ms hs₂ ms₂
     object-deep q n = answer-refused (value-deep-object d s i (sym (b .first) ∙ q) n)
 
     module _ {r : Scanned} where
-      pub told-array : f ≡ Array → (d ≡ 0 → ⊥) → Told (arrayAt (valueAt (d - 1) s) s i) r top row ns ms ns₂ hs₂ ms₂ → Told (valueAt d s i) r top row ns ms ns₂ hs₂ ms₂
+      pub told-array : f ≡ Array → (d ≡ 0 → ⊥) → Told s (arrayAt (valueAt (d - 1) s) s i) r row ms hs₂ ms₂ → Told s (valueAt d s i) r row ms hs₂ ms₂
       told-array q n o = rw (value-array d s i (sym (b .first) ∙ q) n) o
 
-      pub told-object : f ≡ Object → (d ≡ 0 → ⊥) → Told (objectAt (valueAt (d - 1) s) s i) r top row ns ms ns₂ hs₂ ms₂ → Told (valueAt d s i) r top row ns ms ns₂ hs₂ ms₂
+      pub told-object : f ≡ Object → (d ≡ 0 → ⊥) → Told s (objectAt (valueAt (d - 1) s) s i) r row ms hs₂ ms₂ → Told s (valueAt d s i) r row ms hs₂ ms₂
       told-object q n o = rw (value-object d s i (sym (b .first) ∙ q) n) o
 
 -- the brackets that may open in an array or object
-pub opens-ready : {s ns hs ms : List ℕ} {d top row i : ℕ} → (d ≡ 0 → ⊥) → Ready s ns hs ms d top row i → Ready s ns hs ms (d - 1 + 1) top row i
+pub opens-ready : {s hs ms : List ℕ} {d row i : ℕ} → (d ≡ 0 → ⊥) → Ready s hs ms d row i → Ready s hs ms (d - 1 + 1) row i
 opens-ready {d = d} n r = let z : d - 1 + 1 ≡ d = omega arith in rw z r
 
 -- there is a place for the row of a value that holds no other
-pub leaf-free : {s ns hs ms : List ℕ} {d top row i : ℕ} → Ready s ns hs ms d top row i → (length s ≤ 65536) × (i < length s → row < length ms)
+pub leaf-free : {s hs ms : List ℕ} {d row i : ℕ} → Ready s hs ms d row i → (length s ≤ 65536) × (i < length s → row < length ms)
 leaf-free r = (r .room .short, λ l. omega (arith, r .rowed, r .room .rows))
 
 -- what is told of a value that holds no other is told of a value
-module _ {s ns hs ms : List ℕ} {d top row i : ℕ} (ms₂ : List ℕ) (p : Ready s ns hs ms d top row i) where
-  leaf-marked : (n : Node) (e : ℕ) → leafAt s i ≡ parsed n e → LeafAfter (parsed n e) row ms ms₂ → Marked n top row ns ms ns hs ms₂
+module _ {s hs ms : List ℕ} {d row i : ℕ} (ms₂ : List ℕ) (p : Ready s hs ms d row i) where
+  leaf-marked : (n : Node) (e : ℕ) → leafAt s i ≡ parsed n e → LeafAfter (parsed n e) row ms ms₂ → Marked s n row ms hs ms₂
   leaf-marked n e q a =
       let k = leaf-parsed s q in
       let z : size n ≡ 1 = ap size (k .1) in
       let x = a .0 in
+      let w = leaf-in (k .2) in
+      let v = p .fresh .none row (omega arith) in
+      let g : Filled s row hs ms (row + 1) = record { index = p .index; fresh = fresh-later (omega arith) (p .fresh); owned = within-empty } in
       record {
-        names = refl;
-        index = p .index;
+        index = rw (a .1) (header-index g (omega arith) w x v (a .3));
+        fresh = rw (z, a .1) (header-fresh g (omega arith) w x v (a .3));
         below = ap (take row) (a .1) ∙ take-set-le row ms row x (omega arith);
         rows =
             rw (z, a .1)
-            (ap rowsIn (slice-header row (row + 1) x ms (omega arith) (leaf-in (k .2)) ∙ rw slice-empty) ∙ rows-cons x [] ∙ ap (λ (ys : List ℕ). rowIn x ++ ys) rows-none ∙ append-nil (rowIn x) ∙ a .2);
+            (ap rowsIn (slice-header row (row + 1) x ms (omega arith) (omega arith) ∙ rw slice-empty) ∙ rows-cons x [] ∙ ap (λ (ys : List ℕ). rowIn x ++ ys) rows-none ∙ append-nil (rowIn x) ∙ a .2);
+        owned = rw (z, a .1) (header-owned g (omega arith) w x v (a .3));
       }
     where
-      leaf-in : {k : Kind} → scalarAt s i ≡ parsed k e → row + 1 ≤ length ms
+      leaf-in : {k : Kind} → scalarAt s i ≡ parsed k e → row < length ms
       leaf-in v = let b : (i < e) × (e ≤ length s) = rw v at (scalar-bounded s i) in omega (arith, p .rowed, p .room .rows)
 
-  leaf-after : (o : Parse Node) → leafAt s i ≡ o → LeafAfter o row ms ms₂ → After o top row ns ms ns hs ms₂
+  leaf-after : (o : Parse Node) → leafAt s i ≡ o → LeafAfter o row ms ms₂ → After s o row ms hs ms₂
   leaf-after (refused c q) z a = tt
   leaf-after (parsed n e) z a = leaf-marked n e z a
 
   -- its first byte opens neither an array nor an object
   as-leaf : {r : Scanned} → (firstOf (byteAt s i) ≡ Array → ⊥) → (firstOf (byteAt s i) ≡ Object → ⊥) → LeafTold (leafAt s i) r row ms ms₂
-      → Told (valueAt d s i) r top row ns ms ns hs ms₂
+      → Told s (valueAt d s i) r row ms hs ms₂
   as-leaf m n o = rw (value-leaf d s i m n) (record { scan = o .scan; after = leaf-after (leafAt s i) refl (o .after) })
 
   pub told-leaf : {f : First} {r : Scanned} → Begun s i f → OneOf (2 ∷ 3 ∷ 4 ∷ 5 ∷ 6 ∷ 7 ∷ []) (tagOf the-type f) → LeafTold (leafAt s i) r row ms ms₂
-      → Told (valueAt d s i) r top row ns ms ns hs ms₂
+      → Told s (valueAt d s i) r row ms hs ms₂
   told-leaf {f} b h o = let n = first-leaf f h in as-leaf (λ e. n .0 (b .first ∙ e)) (λ e. n .1 (b .first ∙ e)) o
 
 not-array : Number ≡ Array → ⊥
@@ -816,7 +838,7 @@ not-object : Number ≡ Object → ⊥
 not-object q = let z : _≡_ {A = ℕ} 0 1 = cc in omega arith
 
 -- a number of digits alone
-module _ {s ns hs ms : List ℕ} {d top row i e : ℕ} (p : Ready s ns hs ms d top row i) (w : WholeStep s i e) (l : i < e) where
+module _ {s hs ms : List ℕ} {d row i e : ℕ} (p : Ready s hs ms d row i) (w : WholeStep s i e) (l : i < e) where
   whole-is : (firstOf (byteAt s i) ≡ Number) × (scalarAt s i ≡ parsed Whole e)
   whole-is = elim w [ inl q ↦ absurd (omega arith) | inr q ↦ q ]
 
@@ -829,6 +851,6 @@ module _ {s ns hs ms : List ℕ} {d top row i e : ℕ} (p : Ready s ns hs ms d t
   pub whole-fits : ((4 < 65536) × (i < e) × (e ≤ 65536)) × (row < length ms)
   whole-fits = leaf-fits whole-ready whole-token refl
 
-  pub told-whole : {m : ℕ} → m ≡ leafMark 4 i e → Told (valueAt d s i) (Value e 1) top row ns ms ns hs (set ms row m)
+  pub told-whole : {m : ℕ} → m ≡ leafMark 4 i e → Told s (valueAt d s i) (Value e 1) row ms hs (set ms row m)
   told-whole {m} q =
       as-leaf (set ms row m) p (λ z. not-array (sym (whole-is .0) ∙ z)) (λ z. not-object (sym (whole-is .0) ∙ z)) (leaf-noted whole-ready whole-token refl q)

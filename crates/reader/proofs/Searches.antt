@@ -1,77 +1,79 @@
--- The search for a name on the stack: from the last name of its hash's bucket along the links.
-use mathlib.Core.Path.{_≡_, ap, _∙_}
+-- The search for a name among the marks: from the last name of its hash's bucket along the links.
+use mathlib.Core.Path.{_≡_, refl}
 use mathlib.Core.List.{List}
 use mathlib.Core.Logic.{⊎-elim}
-use mathlib.Core.Bool.{Bool, false}
-use Prim.Native.Nat.{ℕ, suc, _+_, _-_, _≤_, _<_}
+use mathlib.Core.Bool.{Bool, true, false}
+use Prim.Native.Nat.{ℕ, _+_, _-_, _≤_, _<_}
 use native.Mathlib.Nat.{eq-or-lt-of-le}
 use native.Mathlib.Decide.{decLt}
 use native.Mathlib.Omega.{arith}
-use lib.ListN.{length, getD}
-use lib.Seq.{slice}
+use lib.ListN.{length, getD, List·getD-eq-default}
+use borrow.Author.Tests.{eqb-true}
 use Rattle.model.specs.Text.{same}
-use Rattle.model.proofs.Basics.{by-test}
+use Rattle.model.proofs.Basics.{clash, and-ways}
 use Rattle.chars.specs.Strings.{characters, part}
-use Rattle.chars.proofs.Facts.{same-true, hash-small}
-use Rattle.chars.specs.Hashing.{hashOf}
-use Rattle.reader.specs.Grammar.{nameOf}
 use Rattle.reader.specs.Packing.{firstIn, secondIn}
-use Rattle.reader.specs.Stack.{endIn, linkIn, hashIn, repeatedIn, bucketOf, lastIn, Names, Index}
-use Rattle.reader.proofs.Stacks.{hasName, names-at, repeated-none}
-use Rattle.reader.proofs.Indexes.{bucket-in, last-most, last-found, last-skips}
+use Rattle.reader.specs.Marks.{isName}
+use Rattle.reader.specs.Names.{nameEnd, nameIn, linkIn, hashIn, bucketOf, lastIn, Index, Seen}
+use Rattle.reader.proofs.Marking.{nothing-unnamed}
+use Rattle.reader.proofs.Indexes.{bucketAt, bucket-in, name-inside, last-most, last-found, last-skips}
 
 -- a name's characters are those from its first byte's next up to its last byte
-pub compared : (s n : List ℕ) (x : ℕ) {a b : ℕ} {t : Bool} → a ≡ firstIn x → b ≡ secondIn x → t ≡ same (characters (part s (a + 1) b)) n
-    → hasName s x n ≡ t
-compared s n x p q e = let z : endIn x - 1 ≡ secondIn x = omega arith in rw (z, ← p, ← q, e)
+pub compared : (s n : List ℕ) (x : ℕ) {a b : ℕ} {t : Bool} → a ≡ secondIn x → b ≡ firstIn x → t ≡ same (characters (part s (a + 1) b)) n
+    → same (nameIn s x) n ≡ t
+compared s n x p q e = let z : nameEnd x - 1 ≡ firstIn x = omega arith in rw (z, ← p, ← q, e)
 
--- of the names from lo up to hi, those from k on have other characters than n; the one before k, if any, lies in n's bucket
-pub record Searched (s ns : List ℕ) (buckets lo hi : ℕ) (n : List ℕ) (k : ℕ) : Type 0 where
-  pub below : k ≤ hi
-  pub chained : 0 < k → bucketOf buckets (hashIn (getD ns (k - 1) 0)) ≡ bucketOf buckets (hashOf n)
-  pub passed : (j : ℕ) → k ≤ j → lo ≤ j → j < hi → hasName s (getD ns j 0) n ≡ false
+-- the mark x is not that of a name with the hash h and the characters n
+abbrev pub Differs : List ℕ → ℕ → List ℕ → ℕ → Type 0
+Differs s h n x = isName x ≡ true → hashIn x ≡ h → same (nameIn s x) n ≡ false
 
-module _ {s ns : List ℕ} {lo hi : ℕ} (h : Names s ns lo hi) (n : List ℕ) where
-  -- a name with another hash is another name
-  pub other-hash : (j : ℕ) → lo ≤ j → j < hi → (hashIn (getD ns j 0) ≡ hashOf n → ⊥) → hasName s (getD ns j 0) n ≡ false
-  other-hash j l m f =
-      let its = nameOf s (firstIn (getD ns j 0)) (endIn (getD ns j 0)) in
-      by-test (same its n) (λ t. let e : its ≡ n = same-true its n t in absurd (f (names-at h j l m .2 ∙ rw e))) (λ t. t)
+-- of the rows above o, those above k are passed; the row k, if it is one of them, has a name in the bucket of h
+pub record Searched (s ms : List ℕ) (buckets o h : ℕ) (n : List ℕ) (k : ℕ) : Type 0 where
+  pub chained : o < k → (k < length ms) × (isName (getD ms k 0) ≡ true) × (bucketAt buckets ms k ≡ bucketOf buckets h)
+  pub passed : (j : ℕ) → k < j → o < j → Differs s h n (getD ms j 0)
 
-  -- no name is left
-  pub search-none : {buckets k : ℕ} → Searched s ns buckets lo hi n k → k ≤ lo → repeatedIn s (slice lo hi ns) n ≡ false
-  search-none d z = repeated-none h n (λ j l m. d .passed j (omega arith) l m)
+module _ {s ms : List ℕ} {o h : ℕ} {n : List ℕ} where
+  -- the row k has the name
+  pub search-found : {buckets k : ℕ} → Searched s ms buckets o h n k → o < k → hashIn (getD ms k 0) ≡ h → same (nameIn s (getD ms k 0)) n ≡ true
+      → Seen s ms o h n true
+  search-found {buckets} {k} d l e t = record { found = λ _. (k, l, d .chained l .1, e, t); missed = λ z. clash true refl z }
 
-  module _ {hs : List ℕ} (x : Index hs ns hi) where
-    -- the last name of the bucket below m; those from m on are passed
-    from-last : (m : ℕ) → m ≤ hi → ((j : ℕ) → m ≤ j → lo ≤ j → j < hi → hasName s (getD ns j 0) n ≡ false)
-        → Searched s ns (length hs) lo hi n (lastIn (length hs) ns (bucketOf (length hs) (hashOf n)) m)
-    from-last m u f =
-        let k = length hs in
-        let b = bucketOf k (hashOf n) in
-        let r = lastIn k ns b m in
-        record {
-          below = omega (arith, last-most k ns b m);
-          chained = λ z. let e : r ≡ suc (r - 1) = omega arith in last-found k ns b m (r - 1) e .1;
-          passed = λ j g l w. go j g l w (decLt j m);
-        }
-      where
-        go : (j : ℕ) → lastIn (length hs) ns (bucketOf (length hs) (hashOf n)) m ≤ j → lo ≤ j → j < hi → Dec (j < m) → hasName s (getD ns j 0) n ≡ false
-        go j g l w (yes v) = other-hash j l w (λ q. last-skips (length hs) ns (bucketOf (length hs) (hashOf n)) m j g v (ap (bucketOf (length hs)) q))
-        go j g l w (no v) = f j (omega arith) l w
+  -- no row is left
+  pub search-none : {buckets k : ℕ} → Searched s ms buckets o h n k → k ≤ o → Seen s ms o h n false
+  search-none d l = record { found = λ z. clash false z refl; missed = λ _ j m. d .passed j (omega arith) m }
 
-    pub search-begin : {b : ℕ} → b ≡ bucketOf (length hs) (hashOf n) → Searched s ns (length hs) lo hi n (getD hs b 0)
-    search-begin {b} e =
-        rw (e, x .heads (bucketOf (length hs) (hashOf n)) (bucket-in (length hs) (hashOf n) (hash-small n) (x .some)))
-        (from-last hi (omega arith) (λ j g l w. absurd (omega arith)))
+module _ {hs ms : List ℕ} (x : Index hs ms) (s : List ℕ) (o h : ℕ) (n : List ℕ) where
+  -- the last name of the bucket below m; the rows from m on are passed
+  from-last : (m : ℕ) → m ≤ length ms → ((j : ℕ) → m ≤ j → o < j → Differs s h n (getD ms j 0))
+      → Searched s ms (length hs) o h n (lastIn (length hs) ms (bucketOf (length hs) h) m)
+  from-last m u f =
+      let k = length hs in
+      let b = bucketOf k h in
+      let r = lastIn k ms b m in
+      record {
+        chained = λ l.
+            let w = last-found k ms b m (omega arith) in
+            and-ways (isName (getD ms r 0)) _ (w .1) (λ e q. (omega arith, e, eqb-true (bucketAt k ms r) b q));
+        passed = λ j g l. go j g l (decLt j m);
+      }
+    where
+      go : (j : ℕ) → lastIn (length hs) ms (bucketOf (length hs) h) m < j → o < j → Dec (j < m) → Differs s h n (getD ms j 0)
+      go j g l (yes v) e q = absurd (last-skips (length hs) ms (bucketOf (length hs) h) m j g v (name-inside (length hs) _ (getD ms j 0) e (rw q)))
+      go j g l (no v) e q = f j (omega arith) l e q
 
-    -- the name before k is another one, and leads on
-    pub search-next : {k : ℕ} → Searched s ns (length hs) lo hi n k → lo < k → hasName s (getD ns (k - 1) 0) n ≡ false
-        → Searched s ns (length hs) lo hi n (linkIn (getD ns (k - 1) 0))
-    search-next {k} d l o =
-        rw (x .links (k - 1) (omega arith), d .chained (omega arith))
-        (from-last (k - 1) (omega arith) (λ j g u w. ⊎-elim (λ e. rw e at o) (λ v. d .passed j (omega arith) u w) (eq-or-lt-of-le g)))
+  -- behind the last row stands no name
+  pub search-begin : {b : ℕ} → h < 65536 → b ≡ bucketOf (length hs) h → Searched s ms (length hs) o h n (getD hs b 0)
+  search-begin {b} l e =
+      rw (e, x .heads (bucketOf (length hs) h) (bucket-in (length hs) h l (x .some)))
+      (from-last (length ms) (omega arith) (λ j g _ t. clash (isName 0) (rw (List·getD-eq-default ms 0 g) at t) nothing-unnamed))
 
-    -- links go down
-    pub search-less : {k : ℕ} → Searched s ns (length hs) lo hi n k → lo < k → linkIn (getD ns (k - 1) 0) < k
-    search-less {k} d l = omega (arith, x .links (k - 1) (omega arith), last-most (length hs) ns (bucketOf (length hs) (hashIn (getD ns (k - 1) 0))) (k - 1))
+  -- the name at k is another one, and leads on
+  pub search-next : {k : ℕ} → Searched s ms (length hs) o h n k → o < k → Differs s h n (getD ms k 0) → Searched s ms (length hs) o h n (linkIn (getD ms k 0))
+  search-next {k} d l t =
+      let c = d .chained l in
+      rw (x .links k (c .0) (c .1), c .2)
+      (from-last k (omega arith) (λ j g u. ⊎-elim (λ e. rw e at t) (λ v. d .passed j v u) (eq-or-lt-of-le g)))
+
+  -- links go down
+  pub search-less : {k : ℕ} → Searched s ms (length hs) o h n k → o < k → linkIn (getD ms k 0) < k
+  search-less {k} d l = let c = d .chained l in omega (arith, x .links k (c .0) (c .1), last-most (length hs) ms (bucketAt (length hs) ms k) k)

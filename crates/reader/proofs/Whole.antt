@@ -1,9 +1,9 @@
 -- A whole text on plain values: what both passes are given and what they tell of it, and how the answer follows.
 use mathlib.Core.Path.{_≡_, refl, sym, ap, _∙_}
 use mathlib.Core.List.{List}
-use Prim.Native.Nat.{ℕ, _+_, _*_, _≤_, _<_}
+use Prim.Native.Nat.{ℕ, zero, suc, _+_, _*_, _≤_, _<_}
 use native.Mathlib.Omega.{arith}
-use lib.ListN.{length, take, replicate, length-replicate}
+use lib.ListN.{length, getD, take, replicate, length-replicate}
 use lib.Seq.{sets}
 use borrow.Author.Tests.{lt-ltb, le-ltb}
 use Rattle.chars.specs.Parse.{Parse, refused, parsed}
@@ -13,7 +13,6 @@ use Rattle.reader.specs.Tree.{Node}
 use Rattle.reader.specs.Rows.{size, words}
 use Rattle.reader.specs.Grammar.{valueAt, alone, wholeAt, readText}
 use Rattle.reader.specs.Answer.{rowsIn as roomIn, answer, answerOf, tableOf}
-use Rattle.reader.specs.Stack.{Index}
 use Rattle.reader.specs.Marks.{rowsIn}
 use Rattle.reader.specs.Passes.{scanOf, Room, Ready, Marked, Told}
 use Rattle.reader.specs.declared.answers.Answer.{Answer}
@@ -21,18 +20,28 @@ use Rattle.reader.specs.declared.scanning.Scanned.{Scanned}
 use Rattle.reader.specs.declared.scanning.Scanned.the-variants.{Refused, Value}
 use Rattle.reader.proofs.Values.{value-takes}
 use Rattle.reader.proofs.Outcomes.{scan-refused, scan-value, answer-refused, answer-full, answer-read}
+use Rattle.reader.proofs.Marking.{nothing-unnamed}
 use Rattle.reader.proofs.Indexes.{index-fresh}
 use Rattle.reader.proofs.Theorems.{read-code, read-rows}
 
 -- ---- both passes
 
+cleared : (m j : ℕ) → _≡_ {A = ℕ} (getD (replicate m 0) j 0) 0
+cleared zero j = refl
+cleared (suc m) zero = refl
+cleared (suc m) (suc j) = cleared m j
+
 -- cleared room for a text by its length
-pub fresh : (s : List ℕ) (k m d : ℕ) → length s ≤ 4 * k → (0 < k) × (4 * k ≤ 65536) × (4 * k + 33 ≤ 2 * m) → d ≤ 32
-    → Room s (replicate k 0) (replicate m 0) × Index (replicate k 0) (replicate k 0) 0 × (d ≤ 32)
+pub fresh : (s : List ℕ) (k m d : ℕ) → length s ≤ 4 * k → (0 < k) × (4 * k ≤ 65536) × (4 * k + 33 ≤ 2 * m) × (m ≤ 65536) → d ≤ 32 → Ready s (replicate k 0) (replicate m 0) d 0 0
 fresh s k m d h g l =
-    let n = length-replicate {A = ℕ} k 0 in
-    let o = length-replicate {A = ℕ} m 0 in
-    (record { short = omega arith; names = omega arith; rows = omega arith }, index-fresh k (g .0) (omega arith) (replicate k 0), l)
+    let n = length-replicate {A = ℕ} m 0 in
+    record {
+      room = record { short = omega arith; rows = omega arith };
+      index = index-fresh k m (g .0) (omega arith) (g .3);
+      fresh = record { none = λ j _. rw (cleared m j) nothing-unnamed };
+      rowed = omega arith;
+      inside = omega arith;
+    }
 
 -- what is promised of both passes with the outcome o, and a table t that is t₂ afterwards
 abbrev pub Passed : Parse Node → Scanned → List ℕ → List ℕ → Type 0
@@ -52,20 +61,20 @@ module _ (d : ℕ) (s : List ℕ) {n : Node} {e j : ℕ} (q : valueAt d s (skip 
   whole-alone l = rw (q, ← y, le-ltb j (length s) l)
 
 module _ (d : ℕ) (s : List ℕ) {i : ℕ} (z : i ≡ skip s 0) where
-  pub ready : {ns hs ms : List ℕ} → Room s ns ms × Index hs ns 0 × (d ≤ 32) → Ready s ns hs ms d 0 0 i
+  pub ready : {hs ms : List ℕ} → Ready s hs ms d 0 0 → Ready s hs ms d 0 i
   ready h =
       record {
-        room = h .0;
-        index = h .1;
-        named = omega arith;
-        rowed = omega arith;
+        room = h .room;
+        index = h .index;
+        fresh = h .fresh;
+        rowed = omega (arith, h .rowed);
         inside = omega (arith, run-within isSpace s 0 (omega arith));
       }
 
   -- r is what the first pass tells of the value behind the first space
-  module _ {r : Scanned} {ns ms ns₂ hs₂ ms₂ : List ℕ} (told : Told (valueAt d s i) r 0 0 ns ms ns₂ hs₂ ms₂) where
+  module _ {r : Scanned} {ms hs₂ ms₂ : List ℕ} (told : Told s (valueAt d s i) r 0 ms hs₂ ms₂) where
     -- by the place as the definition has it
-    here : Told (valueAt d s (skip s 0)) r 0 0 ns ms ns₂ hs₂ ms₂
+    here : Told s (valueAt d s (skip s 0)) r 0 ms hs₂ ms₂
     here = rw (← z) told
 
     pub passed-refused : (t : List ℕ) {c p : ℕ} → r ≡ Refused c p → Passed (wholeAt d s) (Refused c p) t t
@@ -76,11 +85,11 @@ module _ (d : ℕ) (s : List ℕ) {i : ℕ} (z : i ≡ skip s 0) where
       abbrev value : (n : Node) × (valueAt d s (skip s 0) ≡ parsed n e) × (size n ≡ k)
       value = scan-value (valueAt d s (skip s 0)) (sym (here .scan) ∙ v)
 
-      marked : Marked (value .0) 0 0 ns ms ns₂ hs₂ ms₂
+      marked : Marked s (value .0) 0 ms hs₂ ms₂
       marked = rw (value .1) at (here .after)
 
       -- a row takes two bytes of the text
-      pub marks-few : Room s ns ms → length ms₂ ≡ length ms → k ≤ length ms₂
+      pub marks-few : Room s ms → length ms₂ ≡ length ms → k ≤ length ms₂
       marks-few h q = omega (arith, value-takes s d (value .1), value .2)
 
       module _ (t : List ℕ) {j : ℕ} (y : j ≡ skip s e) where

@@ -6,6 +6,6 @@ pub mod Rows
 pub mod Answer
 pub mod Holding
 pub mod Packing
-pub mod Stack
 pub mod Marks
+pub mod Names
 pub mod Passes

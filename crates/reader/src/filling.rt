@@ -41,18 +41,20 @@ fn put_mark(table: &mut [u32], row: usize, mark: u64)
     ensures { λ _. ⌜ now (table .exit) ≡ sets (now (table .entry)) (rowWords * row) (rowIn mark) ⌝ }
 {
     let first = first_in(mark);
-    let end = second_in(mark) + 1;
+    let last = second_in(mark);
     let rows = third_in(mark);
     let kind = fourth_in(mark);
-    if rows == 0 {
-        put(table, row, kind as u32, first, end, 0, 1);
+    if first > last {
+        put(table, row, 9, last, first + 1, 0, 1);
+    } else if rows == 0 {
+        put(table, row, kind as u32, first, last + 1, 0, 1);
     } else {
         put(
             table,
             row,
             7 + (kind % 2) as u32,
             first,
-            end,
+            last + 1,
             kind / 2,
             rows,
         );

@@ -4,7 +4,7 @@ ghost use mathlib.Core.Path.{_≡_};
 ghost use Prim.Native.Nat.{_+_, _*_, _≤_, _<_};
 ghost use Rattle.reader.specs.Marks.{leafMark, listMark};
 
-// A value or name that holds no other.
+// A value that holds no other.
 pub fn leaf_mark(kind: u32, first: usize, end: usize) -> u64
     requires { ⌜ (kind < 65536) × (first < end) × (end ≤ 65536) ⌝ }
     ensures { λ r. ⌜ r ≡ leafMark kind first end ⌝ }

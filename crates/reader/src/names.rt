@@ -1,4 +1,5 @@
-// The names of the objects that are open, on a stack, with an index by the hash of their characters: for each bucket its last name, from which links lead to the others.
+// The names among the marks, with an index by the hash of their characters: for each bucket its last name, from which links lead to the others.
+// A name's hash takes in the row of its object, so that the same name of two objects never has one hash, and no name need leave the index.
 use crate::packing::first_in;
 use crate::packing::fourth_in;
 use crate::packing::pack;
@@ -13,10 +14,9 @@ use chars::unexpected;
 ghost use mathlib.Core.Path.{_≡_};
 ghost use Prim.Native.Nat.{_+_, _≤_, _<_};
 ghost use lib.ListN.{length, getD, set};
-ghost use lib.Seq.{slice};
-ghost use Rattle.chars.specs.Hashing.{hashOf};
 ghost use Rattle.reader.specs.Grammar.{nameOf};
-ghost use Rattle.reader.specs.Stack.{nameWord, bucketOf, repeatedIn, Names, Index, NameTold};
+ghost use Rattle.reader.specs.Marks.{nameMark};
+ghost use Rattle.reader.specs.Names.{bucketOf, Fresh, Quoted, Index, Seen, NameReady, NameTold};
 
 // The bucket of a hash, of so many.
 fn bucket(hash: usize, buckets: usize) -> usize
@@ -26,29 +26,28 @@ fn bucket(hash: usize, buckets: usize) -> usize
     hash * buckets / 65536
 }
 
-// A name on the stack, from `lo` up to `hi`, has the characters of the name from `at` up to `end`, which have this hash.
+// A name above row `object` has this hash and the characters of the name from `at` up to `end`.
 fn seen(
     text: &[u8],
-    names: &[u64],
     heads: &[u16],
-    lo: usize,
-    hi: usize,
+    marks: &[u64],
+    object: usize,
     at: usize,
     end: usize,
     hash: usize,
 ) -> bool
-    requires { ⌜ Names (now text) (now names) lo hi × Index (now heads) (now names) hi ⌝ }
-    requires { ⌜ (at + 2 ≤ end) × (end ≤ length (now text)) × (hash ≡ hashOf (nameOf (now text) at end)) ⌝ }
-    ensures { λ r. ⌜ r ≡ repeatedIn (now (text .entry)) (slice lo hi (now (names .entry))) (nameOf (now (text .entry)) at end) ⌝ }
+    requires { ⌜ Index (now heads) (now marks) × Quoted (now text) (now marks) object ⌝ }
+    requires { ⌜ (at + 2 ≤ end) × (end ≤ length (now text)) × (hash < 65536) ⌝ }
+    ensures { λ r. ⌜ Seen (now (text .entry)) (now (marks .entry)) object hash (nameOf (now (text .entry)) at end) r ⌝ }
 {
     let from = at + 1;
     let to = end - 1;
     let mut k = heads[bucket(hash, heads.len())] as usize;
-    while k > lo {
-        let x = names[k - 1];
+    while k > object {
+        let x = marks[k];
         if fourth_in(x) == hash {
-            let a = first_in(x) + 1;
-            let b = second_in(x);
+            let a = second_in(x) + 1;
+            let b = first_in(x);
             if same_name(&text[a..b], &text[from..to]) {
                 return true;
             }
@@ -58,10 +57,10 @@ fn seen(
     false
 }
 
-// The name at a place, which none of its object has that stand on the stack from `lo` up to `hi`.
-pub fn name(text: &[u8], names: &[u64], heads: &[u16], lo: usize, hi: usize, at: usize) -> Hashed
-    requires { ⌜ Names (now text) (now names) lo hi × Index (now heads) (now names) hi ⌝ }
-    ensures { λ r. ⌜ NameTold (now (text .entry)) (slice lo hi (now (names .entry))) at r ⌝ }
+// The name at a place, which no member before has of the object at row `object`, with its hash there.
+pub fn name(text: &[u8], heads: &[u16], marks: &[u64], object: usize, at: usize) -> Hashed
+    requires { ⌜ NameReady (now text) (now heads) (now marks) object ⌝ }
+    ensures { λ r. ⌜ NameTold (now (text .entry)) (now (marks .entry)) object at r ⌝ }
 {
     if peek(text, at) != b'"' {
         return match unexpected(text, at) {
@@ -72,39 +71,26 @@ pub fn name(text: &[u8], names: &[u64], heads: &[u16], lo: usize, hi: usize, at:
     match hashed_end(text, at + 1) {
         Hashed::Broken { code, place } => Hashed::Broken { code, place },
         Hashed::Name { end, hash } => {
-            if seen(text, names, heads, lo, hi, at, end, hash as usize) {
+            let own = (hash + object as u64) % 65536;
+            if seen(text, heads, marks, object, at, end, own as usize) {
                 return Hashed::Broken {
                     code: 6,
                     place: end - 1,
                 };
             }
-            Hashed::Name { end, hash }
+            Hashed::Name { end, hash: own }
         }
     }
 }
 
-// Puts the name from `at` up to `end` on the stack of `count` names.
-pub fn push(names: &mut [u64], heads: &mut [u16], count: usize, at: usize, end: usize, hash: usize)
-    requires { ⌜ Index (now heads) (now names) count × (count < length (now names)) × (count < 65535) ⌝ }
-    requires { ⌜ (at < end) × (end ≤ 65536) × (hash < 65536) ⌝ }
-    ensures { λ _. ⌜ now (names .exit) ≡ set (now (names .entry)) count (nameWord at end (getD (now (heads .entry)) (bucketOf (length (now (heads .entry))) hash) 0) hash) ⌝ }
-    ensures { λ _. ⌜ Index (now (heads .exit)) (now (names .exit)) (count + 1) ⌝ }
+// Keeps the name from `at` up to `end` at a row, and in the index.
+pub fn push(heads: &mut [u16], marks: &mut [u64], row: usize, at: usize, end: usize, hash: usize)
+    requires { ⌜ Index (now heads) (now marks) × Fresh (now marks) row × (row < length (now marks)) ⌝ }
+    requires { ⌜ (at + 2 ≤ end) × (end ≤ 65536) × (hash < 65536) ⌝ }
+    ensures { λ _. ⌜ now (marks .exit) ≡ set (now (marks .entry)) row (nameMark at end (getD (now (heads .entry)) (bucketOf (length (now (heads .entry))) hash) 0) hash) ⌝ }
+    ensures { λ _. ⌜ Index (now (heads .exit)) (now (marks .exit)) ⌝ }
 {
     let b = bucket(hash, heads.len());
-    names[count] = pack(at, end - 1, heads[b] as usize, hash);
-    heads[b] = (count + 1) as u16;
-}
-
-// Takes the names from `lo` up to `hi` out of the index.
-pub fn release(names: &[u64], heads: &mut [u16], lo: usize, hi: usize)
-    requires { ⌜ Index (now heads) (now names) hi × (lo ≤ hi) × (hi ≤ length (now names)) ⌝ }
-    ensures { λ _. ⌜ Index (now (heads .exit)) (now (names .entry)) lo ⌝ }
-{
-    let mut k = hi;
-    while k > lo {
-        k -= 1;
-        let x = names[k];
-        let b = bucket(fourth_in(x), heads.len());
-        heads[b] = third_in(x) as u16;
-    }
+    marks[row] = pack(end - 1, at, heads[b] as usize, hash);
+    heads[b] = row as u16;
 }

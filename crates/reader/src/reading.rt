@@ -11,24 +11,22 @@ ghost use Prim.Native.Nat.{min, _≤_};
 ghost use lib.ListN.{length};
 ghost use Rattle.reader.specs.Grammar.{wholeAt};
 ghost use Rattle.reader.specs.Answer.{documentLimits, readWithin, answer, answerOf, tableOf};
-ghost use Rattle.reader.specs.Stack.{Index};
-ghost use Rattle.reader.specs.Passes.{scanOf, Room};
+ghost use Rattle.reader.specs.Passes.{scanOf, Ready};
 
 // Both passes over a whole text, in the working room given.
 fn read_in(
     text: &[u8],
     depth: usize,
-    names: &mut [u64],
     heads: &mut [u16],
     marks: &mut [u64],
     table: &mut [u32],
 ) -> Scanned
-    requires { ⌜ Room (now text) (now names) (now marks) × Index (now heads) (now names) 0 × (depth ≤ 32) ⌝ }
+    requires { ⌜ Ready (now text) (now heads) (now marks) depth 0 0 ⌝ }
     ensures scans { λ r. ⌜ r ≡ scanOf (wholeAt depth (now (text .entry))) ⌝ }
     ensures rows { λ _. ⌜ now (table .exit) ≡ tableOf (now (table .entry)) (wholeAt depth (now (text .entry))) ⌝ }
 {
     let start = skip(text, 0);
-    match value(text, names, heads, marks, 0, 0, start, depth) {
+    match value(text, heads, marks, 0, start, depth) {
         Scanned::Refused { code, place } => Scanned::Refused { code, place },
         Scanned::Value { end, rows } => {
             let j = skip(text, end);
@@ -49,10 +47,9 @@ fn read_128(text: &[u8], depth: usize, table: &mut [u32]) -> Scanned
     ensures scans { λ r. ⌜ r ≡ scanOf (wholeAt depth (now (text .entry))) ⌝ }
     ensures rows { λ _. ⌜ now (table .exit) ≡ tableOf (now (table .entry)) (wholeAt depth (now (text .entry))) ⌝ }
 {
-    let mut names = [0u64; 32];
     let mut heads = [0u16; 32];
     let mut marks = [0u64; 81];
-    read_in(text, depth, &mut names, &mut heads, &mut marks, table)
+    read_in(text, depth, &mut heads, &mut marks, table)
 }
 
 // The same of at most 1,024 bytes.
@@ -61,10 +58,9 @@ fn read_1024(text: &[u8], depth: usize, table: &mut [u32]) -> Scanned
     ensures scans { λ r. ⌜ r ≡ scanOf (wholeAt depth (now (text .entry))) ⌝ }
     ensures rows { λ _. ⌜ now (table .exit) ≡ tableOf (now (table .entry)) (wholeAt depth (now (text .entry))) ⌝ }
 {
-    let mut names = [0u64; 256];
     let mut heads = [0u16; 256];
     let mut marks = [0u64; 529];
-    read_in(text, depth, &mut names, &mut heads, &mut marks, table)
+    read_in(text, depth, &mut heads, &mut marks, table)
 }
 
 // The same of at most 8,192 bytes.
@@ -73,10 +69,9 @@ fn read_8192(text: &[u8], depth: usize, table: &mut [u32]) -> Scanned
     ensures scans { λ r. ⌜ r ≡ scanOf (wholeAt depth (now (text .entry))) ⌝ }
     ensures rows { λ _. ⌜ now (table .exit) ≡ tableOf (now (table .entry)) (wholeAt depth (now (text .entry))) ⌝ }
 {
-    let mut names = [0u64; 2048];
     let mut heads = [0u16; 2048];
     let mut marks = [0u64; 4113];
-    read_in(text, depth, &mut names, &mut heads, &mut marks, table)
+    read_in(text, depth, &mut heads, &mut marks, table)
 }
 
 // The same of at most 32,768 bytes.
@@ -85,10 +80,9 @@ fn read_32768(text: &[u8], depth: usize, table: &mut [u32]) -> Scanned
     ensures scans { λ r. ⌜ r ≡ scanOf (wholeAt depth (now (text .entry))) ⌝ }
     ensures rows { λ _. ⌜ now (table .exit) ≡ tableOf (now (table .entry)) (wholeAt depth (now (text .entry))) ⌝ }
 {
-    let mut names = [0u64; 8192];
     let mut heads = [0u16; 8192];
     let mut marks = [0u64; 16401];
-    read_in(text, depth, &mut names, &mut heads, &mut marks, table)
+    read_in(text, depth, &mut heads, &mut marks, table)
 }
 
 // The same of at most 65,536 bytes.
@@ -97,10 +91,9 @@ fn read_65536(text: &[u8], depth: usize, table: &mut [u32]) -> Scanned
     ensures scans { λ r. ⌜ r ≡ scanOf (wholeAt depth (now (text .entry))) ⌝ }
     ensures rows { λ _. ⌜ now (table .exit) ≡ tableOf (now (table .entry)) (wholeAt depth (now (text .entry))) ⌝ }
 {
-    let mut names = [0u64; 16384];
     let mut heads = [0u16; 16384];
     let mut marks = [0u64; 32785];
-    read_in(text, depth, &mut names, &mut heads, &mut marks, table)
+    read_in(text, depth, &mut heads, &mut marks, table)
 }
 
 // Both passes over a whole text, in room by its length. More brackets than a document's count as a document's.

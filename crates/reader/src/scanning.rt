@@ -3,7 +3,6 @@ use crate::marks::leaf_mark;
 use crate::marks::list_mark;
 use crate::names::name;
 use crate::names::push;
-use crate::names::release;
 use chars::First;
 use chars::Hashed;
 use chars::Token;
@@ -53,32 +52,30 @@ fn leaf(text: &[u8], marks: &mut [u64], row: usize, at: usize) -> Scanned
     }
 }
 
-// The value at a place, with `depth` more brackets allowed to open, the stack of names free from `top` on and the marks from `row` on.
+// The value at a place, with `depth` more brackets allowed to open, and the marks free from `row` on.
 pub fn value(
     text: &[u8],
-    names: &mut [u64],
     heads: &mut [u16],
     marks: &mut [u64],
-    top: usize,
     row: usize,
     at: usize,
     depth: usize,
 ) -> Scanned
-    requires { ⌜ Ready (now text) (now names) (now heads) (now marks) depth top row at ⌝ }
-    ensures { λ r. ⌜ Told (valueAt depth (now (text .entry)) at) r top row (now (names .entry)) (now (marks .entry)) (now (names .exit)) (now (heads .exit)) (now (marks .exit)) ⌝ }
+    requires { ⌜ Ready (now text) (now heads) (now marks) depth row at ⌝ }
+    ensures { λ r. ⌜ Told (now (text .entry)) (valueAt depth (now (text .entry)) at) r row (now (marks .entry)) (now (heads .exit)) (now (marks .exit)) ⌝ }
 {
     match begins(peek(text, at)) {
         First::Array => {
             if depth == 0 {
                 return Scanned::Refused { code: 7, place: at };
             }
-            array(text, names, heads, marks, top, row, at, depth - 1)
+            array(text, heads, marks, row, at, depth - 1)
         }
         First::Object => {
             if depth == 0 {
                 return Scanned::Refused { code: 7, place: at };
             }
-            object(text, names, heads, marks, top, row, at, depth - 1)
+            object(text, heads, marks, row, at, depth - 1)
         }
         _ => leaf(text, marks, row, at),
     }
@@ -87,38 +84,34 @@ pub fn value(
 // The same of an element or of what stands under a name: a number of digits alone is told without a further call.
 fn item(
     text: &[u8],
-    names: &mut [u64],
     heads: &mut [u16],
     marks: &mut [u64],
-    top: usize,
     row: usize,
     at: usize,
     depth: usize,
 ) -> Scanned
-    requires { ⌜ Ready (now text) (now names) (now heads) (now marks) depth top row at ⌝ }
-    ensures { λ r. ⌜ Told (valueAt depth (now (text .entry)) at) r top row (now (names .entry)) (now (marks .entry)) (now (names .exit)) (now (heads .exit)) (now (marks .exit)) ⌝ }
+    requires { ⌜ Ready (now text) (now heads) (now marks) depth row at ⌝ }
+    ensures { λ r. ⌜ Told (now (text .entry)) (valueAt depth (now (text .entry)) at) r row (now (marks .entry)) (now (heads .exit)) (now (marks .exit)) ⌝ }
 {
     let end = whole_end(text, at);
     if end > at {
         marks[row] = leaf_mark(4, at, end);
         return Scanned::Value { end, rows: 1 };
     }
-    value(text, names, heads, marks, top, row, at, depth)
+    value(text, heads, marks, row, at, depth)
 }
 
 // The array whose bracket stands at a place.
 fn array(
     text: &[u8],
-    names: &mut [u64],
     heads: &mut [u16],
     marks: &mut [u64],
-    top: usize,
     row: usize,
     at: usize,
     depth: usize,
 ) -> Scanned
-    requires { ⌜ Ready (now text) (now names) (now heads) (now marks) (depth + 1) top row at × (at < length (now text)) ⌝ }
-    ensures { λ r. ⌜ Told (arrayAt (valueAt depth (now (text .entry))) (now (text .entry)) at) r top row (now (names .entry)) (now (marks .entry)) (now (names .exit)) (now (heads .exit)) (now (marks .exit)) ⌝ }
+    requires { ⌜ Ready (now text) (now heads) (now marks) (depth + 1) row at × (at < length (now text)) ⌝ }
+    ensures { λ r. ⌜ Told (now (text .entry)) (arrayAt (valueAt depth (now (text .entry))) (now (text .entry)) at) r row (now (marks .entry)) (now (heads .exit)) (now (marks .exit)) ⌝ }
 {
     let mut i = skip(text, at + 1);
     if peek(text, i) == b']' {
@@ -131,7 +124,7 @@ fn array(
     let mut rows: usize = 1;
     let mut children: usize = 0;
     loop {
-        match item(text, names, heads, marks, top, row + rows, i, depth) {
+        match item(text, heads, marks, row + rows, i, depth) {
             Scanned::Refused { code, place } => {
                 return Scanned::Refused { code, place };
             }
@@ -153,32 +146,29 @@ fn array(
     }
 }
 
-// The member at a place of an object whose names stand on the stack from `top` up to `count`.
+// The member at a place of the object at row `object`, with the marks free from `row` on.
 fn member(
     text: &[u8],
-    names: &mut [u64],
     heads: &mut [u16],
     marks: &mut [u64],
-    top: usize,
-    count: usize,
+    object: usize,
     row: usize,
     at: usize,
     depth: usize,
 ) -> Scanned
-    requires { ⌜ MemberReady (now text) (now names) (now heads) (now marks) depth top row count at ⌝ }
-    ensures { λ r. ⌜ MemberTold (now (text .entry)) depth r top row count at (now (names .entry)) (now (marks .entry)) (now (names .exit)) (now (heads .exit)) (now (marks .exit)) ⌝ }
+    requires { ⌜ MemberReady (now text) (now heads) (now marks) depth object row at ⌝ }
+    ensures { λ r. ⌜ MemberTold (now (text .entry)) depth r object row at (now (marks .entry)) (now (heads .exit)) (now (marks .exit)) ⌝ }
 {
-    match name(text, names, heads, top, count, at) {
+    match name(text, heads, marks, object, at) {
         Hashed::Broken { code, place } => Scanned::Refused { code, place },
         Hashed::Name { end: e, hash } => {
-            push(names, heads, count, at, e, hash as usize);
-            marks[row] = leaf_mark(9, at, e);
+            push(heads, marks, row, at, e, hash as usize);
             let j = skip(text, e);
             if peek(text, j) != b':' {
                 return refuse(text, j);
             }
             let k = skip(text, j + 1);
-            match item(text, names, heads, marks, count + 1, row + 1, k, depth) {
+            match item(text, heads, marks, row + 1, k, depth) {
                 Scanned::Refused { code, place } => Scanned::Refused { code, place },
                 Scanned::Value { end, rows } => Scanned::Value {
                     end,
@@ -192,16 +182,14 @@ fn member(
 // The object whose brace stands at a place.
 fn object(
     text: &[u8],
-    names: &mut [u64],
     heads: &mut [u16],
     marks: &mut [u64],
-    top: usize,
     row: usize,
     at: usize,
     depth: usize,
 ) -> Scanned
-    requires { ⌜ Ready (now text) (now names) (now heads) (now marks) (depth + 1) top row at × (at < length (now text)) ⌝ }
-    ensures { λ r. ⌜ Told (objectAt (valueAt depth (now (text .entry))) (now (text .entry)) at) r top row (now (names .entry)) (now (marks .entry)) (now (names .exit)) (now (heads .exit)) (now (marks .exit)) ⌝ }
+    requires { ⌜ Ready (now text) (now heads) (now marks) (depth + 1) row at × (at < length (now text)) ⌝ }
+    ensures { λ r. ⌜ Told (now (text .entry)) (objectAt (valueAt depth (now (text .entry))) (now (text .entry)) at) r row (now (marks .entry)) (now (heads .exit)) (now (marks .exit)) ⌝ }
 {
     let mut i = skip(text, at + 1);
     if peek(text, i) == b'}' {
@@ -212,20 +200,19 @@ fn object(
         };
     }
     let mut rows: usize = 1;
-    let mut count = top;
+    let mut children: usize = 0;
     loop {
-        match member(text, names, heads, marks, top, count, row + rows, i, depth) {
+        match member(text, heads, marks, row, row + rows, i, depth) {
             Scanned::Refused { code, place } => {
                 return Scanned::Refused { code, place };
             }
             Scanned::Value { end, rows: more } => {
                 rows += more;
-                count += 1;
+                children += 1;
                 let j = skip(text, end);
                 let b = peek(text, j);
                 if b == b'}' {
-                    release(names, heads, top, count);
-                    marks[row] = list_mark(1, at, j + 1, count - top, rows);
+                    marks[row] = list_mark(1, at, j + 1, children, rows);
                     return Scanned::Value { end: j + 1, rows };
                 }
                 if b != b',' {

@@ -1,36 +1,35 @@
 -- `reader::names::name` meets its contract: no quote, a string that is refused, a name that a member before has, and another name.
 use mathlib.Core.Path.{_≡_, sym, ap, _∙_}
 use mathlib.Core.List.{List}
-use Prim.Native.Nat.{ℕ, _<_}
+use Prim.Native.Nat.{ℕ, _+_, _<_}
 use native.Mathlib.Omega.{arith}
 use borrow.Author.Needs.{needs}
 use lib.ListN.{length}
-use lib.Seq.{slice}
 use Rattle.chars.specs.Bytes.{byteAt}
 use Rattle.chars.specs.Parse.{unexpected}
 use Rattle.chars.specs.Tokens.{tokenOf}
 use Rattle.chars.specs.Spelling.{IsQuoted}
 use Rattle.chars.specs.declared.tokens.Token.the-variants as token
-use Rattle.chars.proofs.Facts.{in-text, quoted-bounds}
+use Rattle.chars.proofs.Facts.{in-text, quoted-bounds, hash-small, name-hashed, name-broken}
 use Rattle.chars.specs.declared.hashing.Hashed.the-variants.{Broken}
 use Rattle.chars.specs.Hashing.{hashOf}
 use Rattle.reader.specs.Tree.{Members}
 use Rattle.reader.specs.Grammar.{nameOf, repeated, nameAt}
-use Rattle.reader.specs.Stack.{Stacked, hashedOf}
+use Rattle.reader.specs.Rows.{sizesMembers}
+use Rattle.reader.specs.Names.{Fresh, Kept, hashedOf}
 use Rattle.reader.proofs.Items.{unexpected-both}
 use Rattle.reader.proofs.Values.{name-bare, name-stopped, name-again, name-new}
-use Rattle.chars.proofs.Facts.{name-hashed, name-broken}
-use Rattle.reader.proofs.Stacks.{stacked-repeated}
+use Rattle.reader.proofs.Owners.{kept-quoted, kept-seen}
 use Rattle.reader.proofs.names.name.Statement.{statement}
 use Rattle.reader.proofs.names.name.Tie as tie
 
 -- a byte that is not allowed is always refused
 module _ (s : List ℕ) (i : ℕ) where
-  refusal-told : (c p : ℕ) → tokenOf (unexpected s i) ≡ token.Broken c p → hashedOf s i (unexpected s i) ≡ Broken c p
-  refusal-told c p = unexpected-both s i (λ o. tokenOf o ≡ token.Broken c p → hashedOf s i o ≡ Broken c p) (λ _ _ _ q. cc)
+  refusal-told : (o c p : ℕ) → tokenOf (unexpected s i) ≡ token.Broken c p → hashedOf s o i (unexpected s i) ≡ Broken c p
+  refusal-told o c p = unexpected-both s i (λ u. tokenOf u ≡ token.Broken c p → hashedOf s o i u ≡ Broken c p) (λ _ _ _ q. cc)
 
   none-taken : (k e : ℕ) → tokenOf (unexpected s i) ≡ token.Taken k e → ⊥
-  none-taken k e = unexpected-both s i (λ o. tokenOf o ≡ token.Taken k e → ⊥) (λ _ _ _ q. let z : _≡_ {A = ℕ} 0 1 = cc in omega arith)
+  none-taken k e = unexpected-both s i (λ u. tokenOf u ≡ token.Taken k e → ⊥) (λ _ _ _ q. let z : _≡_ {A = ℕ} 0 1 = cc in omega arith)
 
 -- no quote was read
 bare : (c : tie.Then1) → let a = c .before .before .before .before .before .args in
@@ -56,11 +55,11 @@ module _ (c : tie.After-known-told4) where
       let h = name-hashed _ _ _ _ (sym (c .before .before .before .hashed-end .ensures) ∙ c .before .end2 .given .1) in
       (record { opens = opened (c .before .before .before .before); ends = h .0 }, h .1)
 
--- the stack was searched for it
+-- the marks were searched for it
 searched : (c : tie.After-seen) → let a = start (c .before) .args in
-    (before : Members) → Stacked (slice (a .lo) (a .hi) (a .names .now)) before
+    (before : Members) → Kept (a .text .now) (a .object) (a .marks .now) (a .object + 1) before → Fresh (a .marks .now) (a .object + 1 + sizesMembers before)
     → repeated (a .text .now) before (nameOf (a .text .now) (a .at) (c .before .before .end2 .given .0 .0)) ≡ c .seen .result
-searched c before k = sym (c .seen .ensures ∙ stacked-repeated _ _ before _ k)
+searched c before k f = kept-seen before (start (c .before) .pre .small) k f _ _ (rw (hashed (c .before) .1) at (c .seen .ensures))
 
 peek-requires : tie.Need-peek-requires
 peek-requires c κs = search needs
@@ -76,8 +75,8 @@ enum-known-end c = search needs
 
 returns : tie.Need-returns
 returns c =
-    let q = refusal-told _ _ _ _ (sym (c .before .before .before .unexpected .ensures) ∙ c .before .code .given .1) in
-    record { tells = λ before k. sym (rw (bare (c .before .before .before .before) before) q) }
+    let q = refusal-told _ _ _ _ _ (sym (c .before .before .before .unexpected .ensures) ∙ c .before .code .given .1) in
+    record { tells = λ before k f. sym (rw (bare (c .before .before .before .before) before) q) }
 
 returns-2 : tie.Need-returns-2
 returns-2 c = absurd (none-taken _ _ _ _ (sym (c .before .before .before .unexpected .ensures) ∙ c .before .end .given .1))
@@ -94,27 +93,33 @@ enum-known-code-2 c = search needs
 enum-known-end-2 : tie.Need-enum-known-end-2
 enum-known-end-2 c = search needs
 
-seen-requires : tie.Need-seen-requires
-seen-requires c κs = let h = hashed c in let b = quoted-bounds (h .0) in (start c .pre, (b .0, b .1, h .1))
+add-own : tie.Need-add-own
+add-own c = omega (arith, start c .pre .small, hashed c .1, hash-small (nameOf (start c .args .text .now) (start c .args .at) (c .before .end2 .given .0 .0)))
 
-sub-t23 : tie.Need-sub-t23
-sub-t23 c = omega (arith, quoted-bounds (hashed (c .before .before) .0))
+seen-requires : tie.Need-seen-requires
+seen-requires c κs =
+    let p = start c .pre in
+    let b = quoted-bounds (hashed c .0) in
+    ((p .index, kept-quoted (p .before) (p .small) (p .kept) (p .fresh)), (b .0, b .1, omega arith))
+
+sub-t25 : tie.Need-sub-t25
+sub-t25 c = omega (arith, quoted-bounds (hashed (c .before .before) .0))
 
 returns-3 : tie.Need-returns-3
 returns-3 c =
     let q = hashed (c .before .before) .0 in
-    record { tells = λ before k. ap (hashedOf _ _) (sym (name-again _ before _ (q .opens) (q .ends) (searched (c .before) before k ∙ c .if2 .taken))) }
+    record { tells = λ before k f. ap (hashedOf _ _ _) (sym (name-again _ before _ (q .opens) (q .ends) (searched (c .before) before k f ∙ c .if2 .taken))) }
 
 returns-4 : tie.Need-returns-4
 returns-4 c =
     let q = name-broken _ _ _ _ (sym (c .before .before .before .hashed-end .ensures) ∙ c .before .code2 .given .1) in
-    record { tells = λ before k. ap (hashedOf _ _) (sym (name-stopped _ before _ (opened (c .before .before .before .before)) q)) }
+    record { tells = λ before k f. ap (hashedOf _ _ _) (sym (name-stopped _ before _ (opened (c .before .before .before .before)) q)) }
 
 returns-5 : tie.Need-returns-5
 returns-5 c =
     let h = hashed (c .before .before) in
     record {
-      tells = λ before k. rw (h .1) (ap (hashedOf _ _) (sym (name-new _ before _ (h .0 .opens) (h .0 .ends) (searched (c .before) before k ∙ c .if2 .left))));
+      tells = λ before k f. rw (h .1) (ap (hashedOf _ _ _) (sym (name-new _ before _ (h .0 .opens) (h .0 .ends) (searched (c .before) before k f ∙ c .if2 .left))));
     }
 
 pub name-spec : {M : Type 1} → statement M
@@ -131,8 +136,9 @@ name-spec =
     hashed-end-requires
     enum-known-code-2
     enum-known-end-2
+    add-own
     seen-requires
-    sub-t23
+    sub-t25
     returns-3
     returns-4
     returns-5)

@@ -29,14 +29,11 @@ cast-pack c = omega (arith, index-head (c .before .before .before .before .pre .
 pack-requires : tie.Need-pack-requires
 pack-requires c κs = omega (arith, index-head (c .before .before .before .before .pre .0 .0) (in-heads (c .before)))
 
-mul-names : tie.Need-mul-names
-mul-names c = search needs
+mul-marks : tie.Need-mul-marks
+mul-marks c = search needs
 
-slice-write-names : tie.Need-slice-write-names
-slice-write-names c = search needs
-
-add-heads : tie.Need-add-heads
-add-heads c = search needs
+slice-write-marks : tie.Need-slice-write-marks
+slice-write-marks c = search needs
 
 cast-heads : tie.Need-cast-heads
 cast-heads c = search needs
@@ -57,7 +54,7 @@ returns : tie.Need-returns
 returns c =
     let p = c .before .before .before .before .before .pre in (
       rw (c .pack .ensures, c .before .before .bucket .ensures),
-      rw (c .pack .ensures, c .before .before .bucket .ensures) (index-push _ _ _ _ _ _ (p .0 .0) (p .0 .1) (omega arith) (p .1 .0) (p .1 .1) (p .1 .2)),
+      rw (c .pack .ensures, c .before .before .bucket .ensures) (index-push _ _ _ _ _ _ (p .0 .0) (p .0 .1) (p .0 .2) (p .1 .0) (p .1 .1) (p .1 .2)),
     )
 
 pub push-spec : {M : Type 1} → statement M
@@ -70,9 +67,8 @@ push-spec =
     slice-read-pack
     cast-pack
     pack-requires
-    mul-names
-    slice-write-names
-    add-heads
+    mul-marks
+    slice-write-marks
     cast-heads
     mul-heads
     slice-write-heads

@@ -11,12 +11,9 @@ slice-aggregate-read-in c = search needs
 slice-aggregate-read-in-2 : tie.Need-slice-aggregate-read-in-2
 slice-aggregate-read-in-2 c = search needs
 
-slice-aggregate-read-in-3 : tie.Need-slice-aggregate-read-in-3
-slice-aggregate-read-in-3 c = search needs
-
 read-in-requires : tie.Need-read-in-requires
 read-in-requires c κs =
-    let start = c .before .before .before .before .before .before in fresh _ 256 529 _ (start .pre .0) (omega arith) (start .pre .1)
+    let start = c .before .before .before .before .before in fresh _ 256 529 _ (start .pre .0) (omega arith) (start .pre .1)
 
 same-length : tie.Need-same-length
 same-length c = search needs
@@ -30,7 +27,6 @@ read-1024-spec =
     (tie.spec
     slice-aggregate-read-in
     slice-aggregate-read-in-2
-    slice-aggregate-read-in-3
     read-in-requires
     same-length
     returns)

@@ -11,18 +11,18 @@ skip-requires : tie.Need-skip-requires
 skip-requires c κs = search needs
 
 value-requires : tie.Need-value-requires
-value-requires c κs = ready _ _ (c .before .before .before .skip .ensures) (c .before .before .before .before .before .before .before .before .before .pre)
+value-requires c κs = ready _ _ (c .before .before .skip .ensures) (c .before .before .before .before .before .before .before .pre)
 
 -- the first pass is over
-module _ (c : tie.After-slice-known7) where
+module _ (c : tie.After-slice-known5) where
   abbrev over : tie.After-value
-  over = c .before .before .before .before .before .before
+  over = c .before .before .before .before
 
   abbrev start : tie.Start
-  start = over .before .before .before .before .before .before .before .before .before .before
+  start = over .before .before .before .before .before .before .before .before
 
-  begun : over .before .before .before .before .skip .result ≡ skip (start .args .text .now) 0
-  begun = over .before .before .before .before .skip .ensures
+  begun : over .before .before .before .skip .result ≡ skip (start .args .text .now) 0
+  begun = over .before .before .before .skip .ensures
 
 enum-known-code : tie.Need-enum-known-code
 enum-known-code c = search needs
@@ -39,9 +39,6 @@ same-length c = search needs
 same-length-2 : tie.Need-same-length-2
 same-length-2 c = search needs
 
-same-length-3 : tie.Need-same-length-3
-same-length-3 c = search needs
-
 returns : tie.Need-returns
 returns c =
     let v = c .before .before .before .before .before in
@@ -51,12 +48,20 @@ fill-requires : tie.Need-fill-requires
 fill-requires c κs =
     let v = c .before .before .before .before .before .before .before .before in (
       marks-few _ _ (begun v) (over v .value .ensures) (c .before .before .before .before .before .before .end .given .1)
-          (start v .pre .0) (over v .value .kept .1 .1 .1 .0),
+          (start v .pre .room) (over v .value .kept .1 .1 .0),
       omega arith,
     )
 
+same-length-3 : tie.Need-same-length-3
+same-length-3 c = search needs
+
 same-length-4 : tie.Need-same-length-4
 same-length-4 c = search needs
+
+returns-2 : tie.Need-returns-2
+returns-2 c =
+    let v = c .before .before .before in
+    passed-refused _ _ (begun v) (over v .value .ensures) _ (c .before .code .given .1)
 
 same-length-5 : tie.Need-same-length-5
 same-length-5 c = search needs
@@ -64,22 +69,8 @@ same-length-5 c = search needs
 same-length-6 : tie.Need-same-length-6
 same-length-6 c = search needs
 
-returns-2 : tie.Need-returns-2
-returns-2 c =
-    let v = c .before .before .before in
-    passed-refused _ _ (begun v) (over v .value .ensures) _ (c .before .code .given .1)
-
 same-length-7 : tie.Need-same-length-7
 same-length-7 c = search needs
-
-same-length-8 : tie.Need-same-length-8
-same-length-8 c = search needs
-
-same-length-9 : tie.Need-same-length-9
-same-length-9 c = search needs
-
-same-length-10 : tie.Need-same-length-10
-same-length-10 c = search needs
 
 returns-3 : tie.Need-returns-3
 returns-3 c =
@@ -87,14 +78,11 @@ returns-3 c =
     passed-read _ _ (begun v) (over v .value .ensures) (c .before .before .before .before .before .before .before .before .before .end .given .1) _ (c .before .before .before .before .before .before .before .skip2 .ensures)
     (c .before .before .before .before .before .before .if1 .left) (c .before .before .before .before .before .if2 .taken) (c .before .before .fill .ensures)
 
-same-length-11 : tie.Need-same-length-11
-same-length-11 c = search needs
+same-length-8 : tie.Need-same-length-8
+same-length-8 c = search needs
 
-same-length-12 : tie.Need-same-length-12
-same-length-12 c = search needs
-
-same-length-13 : tie.Need-same-length-13
-same-length-13 c = search needs
+same-length-9 : tie.Need-same-length-9
+same-length-9 c = search needs
 
 returns-4 : tie.Need-returns-4
 returns-4 c =
@@ -112,19 +100,15 @@ read-in-spec =
     skip-requires-2
     same-length
     same-length-2
-    same-length-3
     returns
     fill-requires
+    same-length-3
     same-length-4
+    returns-2
     same-length-5
     same-length-6
-    returns-2
     same-length-7
+    returns-3
     same-length-8
     same-length-9
-    same-length-10
-    returns-3
-    same-length-11
-    same-length-12
-    same-length-13
     returns-4)
