@@ -9,6 +9,7 @@ use native.Mathlib.Omega.{arith}
 use native.Mathlib.Decide.{ℕ-discrete}
 use denote.Enum.Declared.{tagOf}
 use types.Run.{OneOf}
+use lib.ListN.{getD}
 use lib.Dec.{eqb}
 use borrow.Author.Tests.{eq-eqb, ne-eqb}
 use Rattle.model.specs.Text.{text}
@@ -28,7 +29,8 @@ use Rattle.schema.specs.Mismatch.{mismatch, nothing, orElse, unless, isW
 use Rattle.schema.specs.Mismatch.{firstElement, firstMember, lookup, judged, missing, skipped, mismatchAt, fieldsMismatch}
 use Rattle.schema.specs.Names.{typeName, genericOf, takesKind}
 use Rattle.schema.specs.Walking.{Reads, ObjectRow, Finds, faultOf, Defines, Judgeable, Judged, JudgedDate}
-use Rattle.schema.specs.Walking.{ArrayJudgeable, MapJudgeable, BodyJudgeable, FieldsJudgeable, absence, FieldsJudged}
+use Rattle.schema.specs.Walking.{ArrayJudgeable, MapJudgeable, BodyJudgeable, FieldsJudgeable, absence, FieldsJudged, FieldJudgeable, FieldJudged}
+use Rattle.schema.specs.Matching.{nameAt, Matches}
 use Rattle.schema.specs.declared.rows.Record.{Record}
 use Rattle.schema.specs.declared.definitions.Fault.{Fault}
 use Rattle.schema.specs.declared.judging.Mismatch.{Mismatch}
@@ -45,10 +47,10 @@ use Rattle.schema.proofs.Defines.{sought, partRows}
 use Rattle.schema.proofs.Shapes.{type-fine, Under, under, Shaped, shaped, BodyAt, body-fine, Element, part-fields}
 use Rattle.schema.proofs.Trees.{kindOf, elementsIn, membersIn, row, string-row, array-row, object-row, kind-read, place-read, string-read}
 use Rattle.schema.proofs.Trees.{same-tree, as-row, row-object, as-object, part-object, same-part}
-use Rattle.schema.proofs.Trees.{MembersLeft, MemberHere, members-start, member-here, members-next, members-end, member-read}
+use Rattle.schema.proofs.Trees.{MembersLeft, MemberHere, members-start, member-here, members-next, members-end}
 use Rattle.schema.proofs.Trees.{ValuesLeft, ValueHere, values-start, value-here, values-next, values-end}
 use Rattle.schema.proofs.Trees.{ElementsLeft, ElementHere, elements-start, element-here, elements-next, elements-end}
-use Rattle.schema.proofs.Trees.{Found, found, not-found, no-array, no-object, no-date}
+use Rattle.schema.proofs.Trees.{found, not-found, no-array, no-object, no-date}
 
 -- ---- what is judged first counts
 
@@ -546,79 +548,115 @@ module _ {s₁ s₂ t₁ t₂ : List ℕ} {r₁ r₂ : ℕ} {required : Bool} wh
     pub field-less : 0 < left → word t₂ (here + 1) 4 < word t₂ r₂ 4
     field-less l = omega (arith, row (field-here l .value) .subtree, a .less, ap sizesMembers (field-here l .is))
 
--- the field there: its name was read as x, and v was found for it in the document's object
-pub record FieldSought (s₁ s₂ t₁ t₂ : List ℕ) (r₁ r₂ : ℕ) (required : Bool) (here left : ℕ) (x : Record) (v : ℕ) : Type 0 where
+-- the field there, for which v was found in the document's object
+pub record FieldSought (s₁ s₂ t₁ t₂ : List ℕ) (r₁ r₂ : ℕ) (required : Bool) (here left v : ℕ) : Type 0 where
   pub ahead : InFields s₁ s₂ t₁ t₂ r₁ r₂ required here left
   pub some : 0 < left
-  pub reads : Reads t₂ here x
-  pub finds : Finds s₁ t₁ r₁ (nameOf s₂ (x .first) (x .end)) v
+  pub finds : Finds s₁ t₁ r₁ (nameOf s₂ (word t₂ here 1) (word t₂ here 2)) v
 
-module _ {s₁ s₂ t₁ t₂ : List ℕ} {r₁ r₂ : ℕ} {required : Bool} {here left : ℕ} {x : Record} {v : ℕ} (i : FieldSought s₁ s₂ t₁ t₂ r₁ r₂ required here left x v) where
+module _ {s₁ s₂ t₁ t₂ : List ℕ} {r₁ r₂ : ℕ} {required : Bool} {here left v : ℕ} (i : FieldSought s₁ s₂ t₁ t₂ r₁ r₂ required here left v) where
   abbrev one : MemberHere s₂ t₂ here (i .ahead .rest)
   one = field-here (i .ahead) (i .some)
 
-  abbrev object-judged : ObjectRow s₁ t₁ r₁
-  object-judged = i .ahead .given .document
-
   -- its definition, and the fields behind it
-  added-here : Added (x .first) (nameOf s₂ (x .first) (x .end)) (definitionAt s₂ (one .value .tree)) (fieldsAt s₂ (one .others)) (i .ahead .fields)
-  added-here = added-fine (x .first) _ _ _ (i .ahead .fields) (sym (ap (fieldsAt s₂) (member-read one (i .reads))) ∙ i .ahead .defines)
+  added-here : Added (word t₂ here 1) (nameOf s₂ (word t₂ here 1) (word t₂ here 2)) (definitionAt s₂ (one .value .tree)) (fieldsAt s₂ (one .others)) (i .ahead .fields)
+  added-here = added-fine (word t₂ here 1) _ _ _ (i .ahead .fields) (sym (ap (fieldsAt s₂) (one .is)) ∙ i .ahead .defines)
 
-  -- its mismatch, by the value under its name
-  abbrev of-value : Option Node → Mismatch
-  of-value o = judged o (absence required (object-judged .first) (x .first)) (mismatchAt s₁ (added-here .definition))
-
-  pub this : Mismatch
-  this = of-value (lookup s₁ (nameOf s₂ (x .first) (x .end)) (object-judged .members))
-
-  all-fields : fieldsAnswer required (i .ahead .given) (i .ahead .given .fields) ≡ orElse this (fieldsAnswer required (i .ahead .given) (added-here .others))
-  unfolding this
-  all-fields = i .ahead .stays ∙ ap (fieldsAnswer required (i .ahead .given)) (added-here .adds)
-
-  field-stops : {m : Mismatch} → m ≡ this → (m .code ≡ 0 → ⊥) → FieldsJudged s₁ s₂ t₁ t₂ r₁ r₂ required m
-  field-stops e c = conclude-fields required (i .ahead .given) (e ∙ sym (all-fields ∙ or-stops this _ (rw e at c)))
-
-  -- where it has none, the others count
-  pub field-next : this .code ≡ 0 → {y : Record} → Reads t₂ (here + 1) y → InFields s₁ s₂ t₁ t₂ r₁ r₂ required (y .next) (left - 1)
-  field-next c p = record {
-    given = i .ahead .given;
-    rest = one .others;
-    ahead = members-next (i .ahead .ahead) one (p .next);
-    fields = added-here .others;
-    defines = added-here .define;
-    less = omega (arith, i .ahead .less, ap sizesMembers (one .is));
-    stays = all-fields ∙ or-goes-on this _ c;
+  pub field-judgeable : FieldJudgeable s₁ s₂ t₁ t₂ r₁ v here
+  field-judgeable = record {
+    document = i .ahead .given .document;
+    finds = i .finds;
+    name = one .in-table;
+    schema = one .value;
+    definition = added-here .definition;
+    defines = added-here .defines;
   }
 
-  module _ (l : 0 < v) where
-    abbrev there : Found s₁ t₁ (nameOf s₂ (x .first) (x .end)) (object-judged .members) v
-    there = found object-judged (i .finds) l
+  -- its mismatch counts first
+  module _ {m : Mismatch} (h : FieldJudged s₁ s₂ t₁ t₂ r₁ v here required m) where
+    all-fields : fieldsAnswer required (i .ahead .given) (i .ahead .given .fields) ≡ orElse m (fieldsAnswer required (i .ahead .given) (added-here .others))
+    unfolding field-judgeable
+    all-fields = rw (h .tells field-judgeable) (i .ahead .stays ∙ ap (fieldsAnswer required (i .ahead .given)) (added-here .adds))
 
-    pub field-judgeable : Judgeable s₁ s₂ t₁ t₂ v (here + 1)
-    field-judgeable = record { document = there .value; schema = one .value; definition = added-here .definition; defines = added-here .defines }
+    pub field-fails : (m .code ≡ 0 → ⊥) → FieldsJudged s₁ s₂ t₁ t₂ r₁ r₂ required m
+    field-fails c = conclude-fields required (i .ahead .given) (sym (all-fields ∙ or-stops m _ c))
 
-    module _ {m : Mismatch} (h : Judged s₁ s₂ t₁ t₂ v (here + 1) m) where
-      is-this : m ≡ this
-      unfolding this field-judgeable
-      is-this = h .tells field-judgeable ∙ sym (ap of-value (there .is))
+    pub field-next : m .code ≡ 0 → {y : Record} → Reads t₂ (here + 1) y → InFields s₁ s₂ t₁ t₂ r₁ r₂ required (y .next) (left - 1)
+    field-next c p = record {
+      given = i .ahead .given;
+      rest = one .others;
+      ahead = members-next (i .ahead .ahead) one (p .next);
+      fields = added-here .others;
+      defines = added-here .define;
+      less = omega (arith, i .ahead .less, ap sizesMembers (one .is));
+      stays = all-fields ∙ or-goes-on m _ c;
+    }
 
-      pub field-fails : (m .code ≡ 0 → ⊥) → FieldsJudged s₁ s₂ t₁ t₂ r₁ r₂ required m
-      field-fails c = field-stops is-this c
+-- the same where what stands under each name was found before, in vs: i fields of `count` are judged
+pub record InWide (s₁ s₂ t₁ t₂ : List ℕ) (r₁ r₂ : ℕ) (required : Bool) (vs : List ℕ) (count i here : ℕ) : Type 0 where
+  pub few : count ≤ 2048
+  pub ahead : InFields s₁ s₂ t₁ t₂ r₁ r₂ required here (count - i)
+  pub matched : (j : ℕ) → j < count - i → Finds s₁ t₁ r₁ (nameAt s₂ (ahead .rest) j) (getD vs (i + j) 0)
 
-      pub field-meets : m .code ≡ 0 → this .code ≡ 0
-      field-meets c = rw is-this at c
+module _ {s₁ s₂ t₁ t₂ : List ℕ} {r₁ r₂ : ℕ} {required : Bool} {vs : List ℕ} {count : ℕ} where
+  pub wide-start : (j : FieldsJudgeable s₁ s₂ t₁ t₂ r₁ r₂) → 0 < r₂ → count ≡ word t₂ r₂ 3 → count ≤ 2048 → Matches s₁ t₁ r₁ s₂ t₂ r₂ vs
+      → InWide s₁ s₂ t₁ t₂ r₁ r₂ required vs count 0 (r₂ + 1)
+  unfolding fields-start
+  wide-start j l e few m =
+      let o = part-object (j .schema) l in
+      let c = members-start o e .counts in
+      record {
+        few = few;
+        ahead = fields-start j l (omega arith);
+        matched = λ k h. let z : 0 + k ≡ k = omega arith in rw z (m .tells o k (omega arith));
+      }
 
-  module _ (l : v ≤ 0) where
-    is-absent : this ≡ absence required (object-judged .first) (x .first)
-    unfolding this
-    is-absent = ap of-value (not-found object-judged (i .finds) (omega arith))
+  module _ {i here : ℕ} (a : InWide s₁ s₂ t₁ t₂ r₁ r₂ required vs count i here) where
+    pub wide-end : {m : Mismatch} → count ≤ i → m ≡ nothing → FieldsJudged s₁ s₂ t₁ t₂ r₁ r₂ required m
+    wide-end l e = fields-end (a .ahead) (omega arith) e
 
-    pub field-missing : required ≡ true → {b : ℕ} → b ≡ word t₁ r₁ 1 → {m : Mismatch} → m ≡ mismatch 21 b (x .first)
-        → FieldsJudged s₁ s₂ t₁ t₂ r₁ r₂ required m
-    field-missing q {b} g {m} e =
-        let f : b ≡ object-judged .first = g ∙ row (as-row object-judged) .first in
-        let z : this ≡ missing (object-judged .first) (x .first) = is-absent ∙ ap (λ (c : Bool). absence c (object-judged .first) (x .first)) q in
-        field-stops (e ∙ ap (λ (b : ℕ). mismatch 21 b (x .first)) f ∙ sym z) (λ c. (let k : m .code ≡ 21 = rw e in omega arith))
+    module _ (l : i < count) where
+      pub wide-sought : FieldSought s₁ s₂ t₁ t₂ r₁ r₂ required here (count - i) (getD vs i 0)
+      wide-sought =
+          let z : i + 0 ≡ i = omega arith in
+          let h : 0 < count - i = omega arith in
+          record { ahead = a .ahead; some = h; finds = rw (z, field-here (a .ahead) h .is) at (a .matched 0 h) }
 
-    pub field-skipped : required ≡ false → this .code ≡ 0
-    field-skipped q = ap (λ (m : Mismatch). m .code) (is-absent ∙ ap (λ (c : Bool). absence c (object-judged .first) (x .first)) q)
+      pub wide-next : {m : Mismatch} → FieldJudged s₁ s₂ t₁ t₂ r₁ (getD vs i 0) here required m → m .code ≡ 0 → {y : Record} → Reads t₂ (here + 1) y
+          → InWide s₁ s₂ t₁ t₂ r₁ r₂ required vs count (i + 1) (y .next)
+      unfolding wide-sought field-next
+      wide-next h c p =
+          let z : count - i - 1 ≡ count - (i + 1) = omega arith in
+          record {
+            few = a .few;
+            ahead = rw z at (field-next wide-sought h c p);
+            matched = λ j u.
+                (let e : i + suc j ≡ i + 1 + j = omega arith in
+                rw (e, field-here (a .ahead) (wide-sought .some) .is) at (a .matched (suc j) (omega arith)));
+          }
+
+-- ---- one field
+
+module _ {s₁ s₂ t₁ t₂ : List ℕ} {r₁ v r₂ : ℕ} where
+  -- a value is found
+  abbrev pub field-value : FieldJudgeable s₁ s₂ t₁ t₂ r₁ v r₂ → 0 < v → Judgeable s₁ s₂ t₁ t₂ v (r₂ + 1)
+  field-value j l = record { document = found (j .document) (j .finds) l .value; schema = j .schema; definition = j .definition; defines = j .defines }
+
+  module _ {required : Bool} {m : Mismatch} where
+    pub field-found : 0 < v → Judged s₁ s₂ t₁ t₂ v (r₂ + 1) m → FieldJudged s₁ s₂ t₁ t₂ r₁ v r₂ required m
+    field-found l h = record {
+      tells = λ j. h .tells (field-value j l) ∙ sym (ap (λ (o : Option Node). judged o (absence required (j .document .first) (word t₂ r₂ 1)) (mismatchAt s₁ (j .definition))) (found (j .document) (j .finds) l .is));
+    }
+
+    -- none is found
+    field-absent : v ≤ 0 → ((j : FieldJudgeable s₁ s₂ t₁ t₂ r₁ v r₂) → m ≡ absence required (j .document .first) (word t₂ r₂ 1)) → FieldJudged s₁ s₂ t₁ t₂ r₁ v r₂ required m
+    field-absent l e = record {
+      tells = λ j. e j ∙ sym (ap (λ (o : Option Node). judged o (absence required (j .document .first) (word t₂ r₂ 1)) (mismatchAt s₁ (j .definition))) (not-found (j .document) (j .finds) (omega arith)));
+    }
+
+    pub field-missing : v ≤ 0 → required ≡ true → {x y : Record} → Reads t₁ r₁ x → Reads t₂ r₂ y → m ≡ mismatch 21 (x .first) (y .first) → FieldJudged s₁ s₂ t₁ t₂ r₁ v r₂ required m
+    field-missing l q p w e =
+        field-absent l (λ j. rw (q, ← w .first, ← row (as-row (j .document)) .first, ← p .first) e)
+
+    pub field-skipped : v ≤ 0 → required ≡ false → m ≡ nothing → FieldJudged s₁ s₂ t₁ t₂ r₁ v r₂ required m
+    field-skipped l q e = field-absent l (λ j. rw q e)

@@ -2,6 +2,8 @@
 pub mod Trees
 pub mod Words
 pub mod Finding
+pub mod Indexes
+pub mod Filling
 pub mod Sharing
 pub mod Faults
 pub mod Defines

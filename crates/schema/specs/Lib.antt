@@ -6,3 +6,4 @@ pub mod Compare
 pub mod Names
 pub mod Walking
 pub mod Comparing
+pub mod Matching

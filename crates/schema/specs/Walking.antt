@@ -7,9 +7,10 @@ use mathlib.Core.List.{List}
 use lib.ListN.{length}
 use Rattle.reader.specs.Tree.{Node, object, Members, no-member}
 use Rattle.reader.specs.Rows.{rowWords}
+use Rattle.reader.specs.Grammar.{nameOf}
 use Rattle.reader.specs.Holding.{word, Holds, Placed}
 use Rattle.schema.specs.Located.{Located, array-at, map-at, object-at, LocatedFields, Defined, faulty, fine, sharedAt, definitionAt, fieldsAt, bodyAt}
-use Rattle.schema.specs.Mismatch.{lookup, dateAt, mismatchAt, fieldsMismatch, missing, skipped}
+use Rattle.schema.specs.Mismatch.{lookup, judged, dateAt, mismatchAt, fieldsMismatch, missing, skipped}
 use Rattle.schema.specs.declared.rows.Record.{Record}
 use Rattle.schema.specs.declared.definitions.Fault.{Fault}
 use Rattle.schema.specs.declared.judging.Mismatch.{Mismatch}
@@ -131,3 +132,16 @@ absence false brace q = skipped q
 
 pub record FieldsJudged (s₁ s₂ t₁ t₂ : List ℕ) (r₁ r₂ : ℕ) (required : Bool) (m : Mismatch) : Type 0 where
   pub tells : (j : FieldsJudgeable s₁ s₂ t₁ t₂ r₁ r₂) → m ≡ fieldsMismatch s₁ (absence required (j .document .first)) (j .fields) (j .document .members)
+
+-- one field, its name at row r₂: v was found for it in the object at row r₁
+pub record FieldJudgeable (s₁ s₂ t₁ t₂ : List ℕ) (r₁ v r₂ : ℕ) : Type 0 where
+  pub document : ObjectRow s₁ t₁ r₁
+  pub finds : Finds s₁ t₁ r₁ (nameOf s₂ (word t₂ r₂ 1) (word t₂ r₂ 2)) v
+  pub name : InTable t₂ r₂
+  pub schema : Rowed s₂ t₂ (r₂ + 1)
+  pub definition : Located
+  pub defines : definitionAt s₂ (schema .tree) ≡ fine definition
+
+pub record FieldJudged (s₁ s₂ t₁ t₂ : List ℕ) (r₁ v r₂ : ℕ) (required : Bool) (m : Mismatch) : Type 0 where
+  pub tells : (j : FieldJudgeable s₁ s₂ t₁ t₂ r₁ v r₂)
+      → m ≡ judged (lookup s₁ (nameOf s₂ (word t₂ r₂ 1) (word t₂ r₂ 2)) (j .document .members)) (absence required (j .document .first) (word t₂ r₂ 1)) (mismatchAt s₁ (j .definition))

@@ -1,5 +1,7 @@
 // The first mismatch of a document's value with a definition (01, "Definitions": "First misfit").
 use crate::definitions::define;
+use crate::matching::match_names;
+use crate::matching::wide;
 use crate::names::Generic;
 use crate::names::TypeName;
 use crate::names::generic_name;
@@ -9,9 +11,11 @@ use crate::rows::find;
 use crate::rows::row_at;
 use date::is_date;
 ghost use mathlib.Core.Path.{_≡_};
+ghost use Prim.Native.Nat.{_≤_, _<_};
 ghost use Rattle.reader.specs.Holding.{word as wordOf};
 ghost use Rattle.schema.specs.Mismatch.{mismatch};
 ghost use Rattle.schema.specs.Walking.{Rowed, Judgeable, Judged, JudgedDate, ArrayJudgeable, MapJudgeable, BodyJudgeable, FieldsJudgeable, FieldsJudged};
+ghost use Rattle.schema.specs.Walking.{FieldJudgeable, FieldJudged};
 
 // Codes 20 to 22 with the place in the document and the other in the schema; code 0 where there is none.
 pub struct Mismatch {
@@ -215,24 +219,78 @@ fn judge_fields(
     if fields == 0 {
         return Mismatch::none();
     }
-    let brace = row_at(rows1, at).first;
     let mut left = row_at(rows2, fields).children;
+    if wide(row_at(rows1, at).children, left) {
+        return judge_wide(document, schema, rows1, rows2, at, fields, required);
+    }
     let mut row = fields + 1;
     while left > 0 {
         let name = row_at(rows2, row);
         let from = name.first as usize + 1;
         let to = name.end as usize - 1;
         let value = find(document, rows1, at, &schema[from..to]);
-        if value > 0 {
-            let found = judge(document, schema, rows1, rows2, value, row + 1);
-            if found.code != 0 {
-                return found;
-            }
-        } else if required {
-            return Mismatch::at(21, brace, name.first);
+        let found = judge_field(document, schema, rows1, rows2, at, value, row, required);
+        if found.code != 0 {
+            return found;
         }
         row = row_at(rows2, row + 1).next;
         left -= 1;
+    }
+    Mismatch::none()
+}
+
+// The same where both have many names: each is looked up by an index.
+fn judge_wide(
+    document: &[u8],
+    schema: &[u8],
+    rows1: &[u32],
+    rows2: &[u32],
+    at: usize,
+    fields: usize,
+    required: bool,
+) -> Mismatch
+    requires { ⌜ FieldsJudgeable (now document) (now schema) (now rows1) (now rows2) at fields ⌝ }
+    requires { ⌜ (0 < fields) × (wordOf (now rows2) fields 3 ≤ 2048) ⌝ }
+    ensures { λ r. ⌜ FieldsJudged (now (document .entry)) (now (schema .entry)) (now (rows1 .entry)) (now (rows2 .entry)) at fields required r ⌝ }
+{
+    let mut values = [0usize; 2048];
+    match_names(document, rows1, at, schema, rows2, fields, &mut values);
+    let count = row_at(rows2, fields).children as usize;
+    let mut i: usize = 0;
+    let mut row = fields + 1;
+    while i < count {
+        let value = values[i];
+        let found = judge_field(document, schema, rows1, rows2, at, value, row, required);
+        if found.code != 0 {
+            return found;
+        }
+        row = row_at(rows2, row + 1).next;
+        i += 1;
+    }
+    Mismatch::none()
+}
+
+// The same of one field, its name at row `row`: row `value` of the document was found for it, or 0.
+fn judge_field(
+    document: &[u8],
+    schema: &[u8],
+    rows1: &[u32],
+    rows2: &[u32],
+    at: usize,
+    value: usize,
+    row: usize,
+    required: bool,
+) -> Mismatch
+    requires { ⌜ FieldJudgeable (now document) (now schema) (now rows1) (now rows2) at value row ⌝ }
+    ensures { λ r. ⌜ FieldJudged (now (document .entry)) (now (schema .entry)) (now (rows1 .entry)) (now (rows2 .entry)) at value row required r ⌝ }
+{
+    if value > 0 {
+        return judge(document, schema, rows1, rows2, value, row + 1);
+    }
+    if required {
+        let brace = row_at(rows1, at).first;
+        let name = row_at(rows2, row);
+        return Mismatch::at(21, brace, name.first);
     }
     Mismatch::none()
 }

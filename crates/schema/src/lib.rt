@@ -3,6 +3,7 @@ mod checking;
 mod comparing;
 mod definitions;
 mod judging;
+mod matching;
 mod names;
 mod rows;
 

@@ -1,17 +1,16 @@
--- The walk over a value and a definition meets its contracts. The measure is twice the rows of the definition, with one more in `judge`; fields that are
--- absent, at row 0, count none. The loops' invariants are `InArray`, `InMap` and `InFields`; `Judges` has a law for each way out. Below each member's name
--- stands what is known at its places.
-use Prim.Native.Nat.{ℕ, _+_, _*_, _≤_, _<_}
-use mathlib.Core.Path.{_≡_, sym, _∙_}
-use mathlib.Core.Logic.{⊎-elim}
+-- The walk over a value and a definition meets its contracts. The measure is three times the rows of the definition, with one more in `judge` and
+-- `judge_fields`, two in `judge_field`; fields that are absent, at row 0, count none. The loops' invariants are `InArray`, `InMap`, `InFields` and `InWide`;
+-- `Judges` has a law for each way out. Below each member's name stands what is known at its places.
+use Prim.Native.Nat.{ℕ, _+_, _-_, _*_, _≤_, _<_}
+use mathlib.Core.Path.{_≡_, refl, sym, _∙_}
 use native.Mathlib.Omega.{arith}
 use borrow.Author.Needs.{needs}
-use lib.ListN.{length}
+use lib.ListN.{length, getD}
 use mir.Syntax.{w64}
 use mir.Val.{Fits}
 use Rattle.model.specs.Text.{text}
 use Rattle.reader.specs.Holding.{word}
-use Rattle.schema.specs.Walking.{ObjectRow, Finds}
+use Rattle.schema.specs.Walking.{Rowed, ObjectRow, Finds}
 use Rattle.schema.proofs.Words.{plain}
 use Rattle.schema.proofs.Trees.{in-table, as-row, part-object, quotes-read, row-behind, MemberHere}
 use Rattle.schema.proofs.Defines.{partRows, part-rows}
@@ -21,47 +20,62 @@ use Rattle.schema.proofs.Judges.{InArray, array-other, array-start, arr
 use Rattle.schema.proofs.Judges.{InMap, map-other, map-start, map-turn, map-next, map-end}
 use Rattle.schema.proofs.Judges.{InBody, object-other, object-start, fields-found, part-less, required-stops, optional-ends}
 use Rattle.schema.proofs.Judges.{InFields, FieldSought, fields-none, fields-start, fields-end, field-here, field-less}
-use Rattle.schema.proofs.Judges.{this, field-next, field-judgeable, field-fails, field-meets, field-missing, field-skipped}
+use Rattle.schema.proofs.Judges.{field-judgeable, field-fails, field-next, InWide, wide-start, wide-sought, wide-next, wide-end}
+use Rattle.schema.proofs.Judges.{field-value, field-found, field-missing, field-skipped}
 use borrow.Fn.Kinds.{In}
 use borrow.Fn.PlainCycle.{Measures, is, falls, and}
 use Rattle.schema.proofs.judging.judge.Reads as judge
 use Rattle.schema.proofs.judging.judge.Kinds as judge-kinds
-use Rattle.schema.proofs.judging.+judge+judge_array+judge_fields+judge_map+judge_object.Lts-judge as judge-lts
+use Rattle.schema.proofs.judging.+judge+judge_array+judge_field+judge_fields+judge_map+judge_object+judge_wide.Lts-judge as judge-lts
 use Rattle.schema.proofs.judging.judge_array.Reads as judge-array
 use Rattle.schema.proofs.judging.judge_array.Kinds as judge-array-kinds
-use Rattle.schema.proofs.judging.+judge+judge_array+judge_fields+judge_map+judge_object.Lts-judge_array as judge-array-lts
+use Rattle.schema.proofs.judging.+judge+judge_array+judge_field+judge_fields+judge_map+judge_object+judge_wide.Lts-judge_array as judge-array-lts
+use Rattle.schema.proofs.judging.judge_field.Reads as judge-field
+use Rattle.schema.proofs.judging.judge_field.Kinds as judge-field-kinds
+use Rattle.schema.proofs.judging.+judge+judge_array+judge_field+judge_fields+judge_map+judge_object+judge_wide.Lts-judge_field as judge-field-lts
 use Rattle.schema.proofs.judging.judge_fields.Reads as judge-fields
 use Rattle.schema.proofs.judging.judge_fields.Kinds as judge-fields-kinds
-use Rattle.schema.proofs.judging.+judge+judge_array+judge_fields+judge_map+judge_object.Lts-judge_fields as judge-fields-lts
+use Rattle.schema.proofs.judging.+judge+judge_array+judge_field+judge_fields+judge_map+judge_object+judge_wide.Lts-judge_fields as judge-fields-lts
 use Rattle.schema.proofs.judging.judge_map.Reads as judge-map
 use Rattle.schema.proofs.judging.judge_map.Kinds as judge-map-kinds
-use Rattle.schema.proofs.judging.+judge+judge_array+judge_fields+judge_map+judge_object.Lts-judge_map as judge-map-lts
+use Rattle.schema.proofs.judging.+judge+judge_array+judge_field+judge_fields+judge_map+judge_object+judge_wide.Lts-judge_map as judge-map-lts
 use Rattle.schema.proofs.judging.judge_object.Reads as judge-object
 use Rattle.schema.proofs.judging.judge_object.Kinds as judge-object-kinds
-use Rattle.schema.proofs.judging.+judge+judge_array+judge_fields+judge_map+judge_object.Lts-judge_object as judge-object-lts
+use Rattle.schema.proofs.judging.+judge+judge_array+judge_field+judge_fields+judge_map+judge_object+judge_wide.Lts-judge_object as judge-object-lts
+use Rattle.schema.proofs.judging.judge_wide.Reads as judge-wide
+use Rattle.schema.proofs.judging.judge_wide.Kinds as judge-wide-kinds
+use Rattle.schema.proofs.judging.+judge+judge_array+judge_field+judge_fields+judge_map+judge_object+judge_wide.Lts-judge_wide as judge-wide-lts
 use Rattle.schema.proofs.judging.Mismatch.at.Reads as at-reads
 use Rattle.schema.proofs.judging.Mismatch.none.Reads as none-reads
 use Rattle.schema.proofs.judging.judge_named.Reads as judge-named-reads
+use Rattle.schema.proofs.matching.match_names.Reads as match-names-reads
+use Rattle.schema.proofs.matching.wide.Reads as wide-reads
 use Rattle.schema.proofs.names.generic_name.Reads as generic-name-reads
 use Rattle.schema.proofs.rows.find.Reads as find-reads
 use Rattle.schema.proofs.rows.row_at.Reads as row-at-reads
-use Rattle.schema.proofs.judging.+judge+judge_array+judge_fields+judge_map+judge_object.{statement}
-use Rattle.schema.proofs.judging.+judge+judge_array+judge_fields+judge_map+judge_object.Tie.{close}
+use Rattle.schema.proofs.judging.+judge+judge_array+judge_field+judge_fields+judge_map+judge_object+judge_wide.{statement}
+use Rattle.schema.proofs.judging.+judge+judge_array+judge_field+judge_fields+judge_map+judge_object+judge_wide.Tie.{close}
 
 abbrev μ-judge : Measures 4 judge-kinds.ps ℕ
-μ-judge κs a = 2 * word (a .1 .1 .1 .0 .now) (a .1 .1 .1 .1 .1 .0) 4 + 1
+μ-judge κs a = 3 * word (a .1 .1 .1 .0 .now) (a .1 .1 .1 .1 .1 .0) 4 + 1
 
 abbrev μ-judge-array : Measures 4 judge-array-kinds.ps ℕ
-μ-judge-array κs a = 2 * word (a .1 .1 .1 .0 .now) (a .1 .1 .1 .1 .1 .0) 4
+μ-judge-array κs a = 3 * word (a .1 .1 .1 .0 .now) (a .1 .1 .1 .1 .1 .0) 4
+
+abbrev μ-judge-field : Measures 4 judge-field-kinds.ps ℕ
+μ-judge-field κs a = 3 * word (a .1 .1 .1 .0 .now) (a .1 .1 .1 .1 .1 .1 .0 + 1) 4 + 2
 
 abbrev μ-judge-fields : Measures 4 judge-fields-kinds.ps ℕ
-μ-judge-fields κs a = 2 * partRows (a .1 .1 .1 .0 .now) (a .1 .1 .1 .1 .1 .0)
+μ-judge-fields κs a = 3 * partRows (a .1 .1 .1 .0 .now) (a .1 .1 .1 .1 .1 .0) + 1
 
 abbrev μ-judge-map : Measures 4 judge-map-kinds.ps ℕ
-μ-judge-map κs a = 2 * word (a .1 .1 .1 .0 .now) (a .1 .1 .1 .1 .1 .0) 4
+μ-judge-map κs a = 3 * word (a .1 .1 .1 .0 .now) (a .1 .1 .1 .1 .1 .0) 4
 
 abbrev μ-judge-object : Measures 4 judge-object-kinds.ps ℕ
-μ-judge-object κs a = 2 * word (a .1 .1 .1 .0 .now) (a .1 .1 .1 .1 .1 .0) 4
+μ-judge-object κs a = 3 * word (a .1 .1 .1 .0 .now) (a .1 .1 .1 .1 .1 .0) 4
+
+abbrev μ-judge-wide : Measures 4 judge-wide-kinds.ps ℕ
+μ-judge-wide κs a = 3 * partRows (a .1 .1 .1 .0 .now) (a .1 .1 .1 .1 .1 .0)
 
 abbrev judge-at : ℕ → In 4 judge-kinds.ps
 judge-at t = and 4 judge-kinds.ps (is 4 judge-kinds.ps μ-judge t) judge.Pre
@@ -74,6 +88,12 @@ judge-array-at t = and 4 judge-array-kinds.ps (is 4 judge-array-kinds.ps μ-judg
 
 abbrev judge-array-below : ℕ → In 4 judge-array-kinds.ps
 judge-array-below t = and 4 judge-array-kinds.ps (falls 4 judge-array-kinds.ps _<_ μ-judge-array t) judge-array.Pre
+
+abbrev judge-field-at : ℕ → In 4 judge-field-kinds.ps
+judge-field-at t = and 4 judge-field-kinds.ps (is 4 judge-field-kinds.ps μ-judge-field t) judge-field.Pre
+
+abbrev judge-field-below : ℕ → In 4 judge-field-kinds.ps
+judge-field-below t = and 4 judge-field-kinds.ps (falls 4 judge-field-kinds.ps _<_ μ-judge-field t) judge-field.Pre
 
 abbrev judge-fields-at : ℕ → In 4 judge-fields-kinds.ps
 judge-fields-at t = and 4 judge-fields-kinds.ps (is 4 judge-fields-kinds.ps μ-judge-fields t) judge-fields.Pre
@@ -92,6 +112,12 @@ judge-object-at t = and 4 judge-object-kinds.ps (is 4 judge-object-kinds.ps μ-j
 
 abbrev judge-object-below : ℕ → In 4 judge-object-kinds.ps
 judge-object-below t = and 4 judge-object-kinds.ps (falls 4 judge-object-kinds.ps _<_ μ-judge-object t) judge-object.Pre
+
+abbrev judge-wide-at : ℕ → In 4 judge-wide-kinds.ps
+judge-wide-at t = and 4 judge-wide-kinds.ps (is 4 judge-wide-kinds.ps μ-judge-wide t) judge-wide.Pre
+
+abbrev judge-wide-below : ℕ → In 4 judge-wide-kinds.ps
+judge-wide-below t = and 4 judge-wide-kinds.ps (falls 4 judge-wide-kinds.ps _<_ μ-judge-wide t) judge-wide.Pre
 
 -- ---- judge
 
@@ -149,7 +175,7 @@ module _ (t : ℕ) where
 
   judge-less : (c : judge-lts.After-generic-name (judge-claims t) (judge-at t) judge.Post) →
       let a = judge-entry (c .before .before .before .before .before .before .before) .args in
-      2 * word (a .rows2 .now) (a .by) 4 < t
+      3 * word (a .rows2 .now) (a .by) 4 < t
   judge-less c = omega (arith, judge-entry (c .before .before .before .before .before .before .before) .pre .0)
 
   judge-row-at-requires : judge-lts.Need-row-at-requires (judge-claims t) (judge-at t) judge.Post
@@ -291,6 +317,49 @@ module _ (t : ℕ) where
   judge-array-returns-3 : judge-array-lts.Need-returns-3 (judge-array-claims t) (judge-array-at t) judge-array.Post judge-array-Inv-loop judge-array-μ-loop
   judge-array-returns-3 c = array-end (c .before .before .loop .inv) (c .before .loop-test .left) (c .none .ensures)
 
+-- ---- judge_field
+
+abbrev judge-field-claims : ℕ → judge-field-lts.Claims
+judge-field-claims t = (
+  judge-below t,
+  judge.Post,
+  row-at-reads.Asked,
+  row-at-reads.Learnt,
+  at-reads.Asked,
+  at-reads.Learnt,
+  none-reads.Asked,
+  none-reads.Learnt,
+)
+
+module _ (t : ℕ) where
+  judge-field-add-judge : judge-field-lts.Need-add-judge (judge-field-claims t) (judge-field-at t) judge-field.Post
+  judge-field-add-judge c = let s = c .before .before .before .before .before in omega (arith, in-table (s .pre .1 .schema) .here, s .good)
+
+  judge-field-judge-requires : judge-field-lts.Need-judge-requires (judge-field-claims t) (judge-field-at t) judge-field.Post
+  judge-field-judge-requires c κs = let s = c .before .before .before .before .before in (omega (arith, s .pre .0), field-value (s .pre .1) (c .if1 .taken))
+
+  judge-field-returns : judge-field-lts.Need-returns (judge-field-claims t) (judge-field-at t) judge-field.Post
+  judge-field-returns c = field-found (c .before .if1 .taken) (c .judge .ensures)
+
+  judge-field-row-at-requires : judge-field-lts.Need-row-at-requires (judge-field-claims t) (judge-field-at t) judge-field.Post
+  judge-field-row-at-requires c κs = in-table (as-row (c .before .before .before .before .before .before .pre .1 .document))
+
+  judge-field-row-at-requires-2 : judge-field-lts.Need-row-at-requires-2 (judge-field-claims t) (judge-field-at t) judge-field.Post
+  judge-field-row-at-requires-2 c κs = c .before .before .before .before .before .before .before .pre .1 .name
+
+  judge-field-at-requires : judge-field-lts.Need-at-requires (judge-field-claims t) (judge-field-at t) judge-field.Post
+  judge-field-at-requires c κs = tt
+
+  judge-field-returns-2 : judge-field-lts.Need-returns-2 (judge-field-claims t) (judge-field-at t) judge-field.Post
+  judge-field-returns-2 c =
+      field-missing (c .before .before .before .before .if1 .left) (c .before .before .before .if2 .taken) (c .before .before .row-at .ensures) (c .before .row-at2 .ensures) (c .at .ensures)
+
+  judge-field-none-requires : judge-field-lts.Need-none-requires (judge-field-claims t) (judge-field-at t) judge-field.Post
+  judge-field-none-requires c κs = tt
+
+  judge-field-returns-3 : judge-field-lts.Need-returns-3 (judge-field-claims t) (judge-field-at t) judge-field.Post
+  judge-field-returns-3 c = field-skipped (c .before .before .if1 .left) (c .before .if2 .left) (c .none .ensures)
+
 -- ---- judge_fields
 
 abbrev judge-fields-claims : ℕ → judge-fields-lts.Claims
@@ -299,19 +368,21 @@ judge-fields-claims t = (
   none-reads.Learnt,
   row-at-reads.Asked,
   row-at-reads.Learnt,
+  wide-reads.Asked,
+  wide-reads.Learnt,
+  judge-wide-below t,
+  judge-wide.Post,
   find-reads.Asked,
   find-reads.Learnt,
-  judge-below t,
-  judge.Post,
-  at-reads.Asked,
-  at-reads.Learnt,
+  judge-field-below t,
+  judge-field.Post,
 )
 
 abbrev judge-fields-Inv-loop : judge-fields-lts.InvT-loop
-judge-fields-Inv-loop document schema rows1 rows2 at fields required brace left₀ row₀ left row = InFields document schema rows1 rows2 at fields required row left
+judge-fields-Inv-loop document schema rows1 rows2 at fields required left₀ row₀ left row = InFields document schema rows1 rows2 at fields required row left
 
 abbrev judge-fields-μ-loop : judge-fields-lts.MeasureT-loop
-judge-fields-μ-loop document schema rows1 rows2 at fields required brace left₀ row₀ left row = left
+judge-fields-μ-loop document schema rows1 rows2 at fields required left₀ row₀ left row = left
 
 module _ (t : ℕ) where
   -- the entry, where there are fields
@@ -329,9 +400,13 @@ module _ (t : ℕ) where
   fields-object c = part-object (fields-entry c .pre .1 .schema) (fields-row c)
 
   -- the entry, from a turn
+  abbrev turn-start : judge-fields-lts.In-loop (judge-fields-claims t) (judge-fields-at t) judge-fields.Post judge-fields-Inv-loop judge-fields-μ-loop
+      → judge-fields-lts.Else1 (judge-fields-claims t) (judge-fields-at t) judge-fields.Post judge-fields-Inv-loop judge-fields-μ-loop
+  turn-start c = c .before .before .before .before .before .before
+
   abbrev turn-entry : judge-fields-lts.In-loop (judge-fields-claims t) (judge-fields-at t) judge-fields.Post judge-fields-Inv-loop judge-fields-μ-loop
       → judge-fields-lts.Start (judge-fields-claims t) (judge-fields-at t) judge-fields.Post judge-fields-Inv-loop judge-fields-μ-loop
-  turn-entry c = fields-entry (c .before .before .before .before)
+  turn-entry c = fields-entry (turn-start c)
 
   -- the next field
   fields-here : (c : judge-fields-lts.In-loop (judge-fields-claims t) (judge-fields-at t) judge-fields.Post judge-fields-Inv-loop judge-fields-μ-loop) →
@@ -345,10 +420,10 @@ module _ (t : ℕ) where
 
   fields-less : (c : judge-fields-lts.In-loop (judge-fields-claims t) (judge-fields-at t) judge-fields.Post judge-fields-Inv-loop judge-fields-μ-loop) →
       let a = turn-entry c .args in
-      2 * word (a .rows2 .now) (c .before .loop .row + 1) 4 + 1 < t
+      3 * word (a .rows2 .now) (c .before .loop .row + 1) 4 + 2 < t
   fields-less c =
       let s = turn-entry c in
-      let rows = part-rows (s .args .rows2 .now) (s .args .fields) (fields-row (c .before .before .before .before)) in
+      let rows = part-rows (s .args .rows2 .now) (s .args .fields) (fields-row (turn-start c)) in
       omega (arith, field-less (c .before .loop .inv) (c .loop-test .taken), rows, s .pre .0)
 
   -- the quotes of its name
@@ -362,17 +437,14 @@ module _ (t : ℕ) where
       let r = c .before .before .before .before in
       let a = turn-entry (r .before) .args in
       FieldSought (a .document .now) (a .schema .now) (a .rows1 .now) (a .rows2 .now) (a .at) (a .fields) (a .required)
-      (r .before .before .loop .row) (r .before .before .loop .left) (r .row-at3 .result) (c .find .result)
+      (r .before .before .loop .row) (r .before .before .loop .left) (c .find .result)
   fields-sought c =
       let r = c .before .before .before .before in
-      record { ahead = r .before .before .loop .inv; some = r .before .loop-test .taken; reads = r .row-at3 .ensures; finds = c .find .ensures }
-
-  -- it has no mismatch
-  fields-passed : (c : judge-fields-lts.Joined2 (judge-fields-claims t) (judge-fields-at t) judge-fields.Post judge-fields-Inv-loop judge-fields-μ-loop)
-      → this (fields-sought (c .before)) .code ≡ 0
-  fields-passed c =
-      let i = fields-sought (c .before) in
-      ⊎-elim (λ w. field-meets i (w .0 .taken) (w .1 .ensures) (w .3 .left)) (λ w. field-skipped i (w .0 .left) (w .1 .left)) (c .if2 .came)
+      record {
+        ahead = r .before .before .loop .inv;
+        some = r .before .loop-test .taken;
+        finds = rw (r .row-at3 .ensures .first, r .row-at3 .ensures .last) at (c .find .ensures);
+      }
 
   judge-fields-none-requires : judge-fields-lts.Need-none-requires (judge-fields-claims t) (judge-fields-at t) judge-fields.Post judge-fields-Inv-loop judge-fields-μ-loop
   judge-fields-none-requires c κs = tt
@@ -383,18 +455,31 @@ module _ (t : ℕ) where
       fields-none (s .args .required) (s .pre .1) (c .before .if1 .taken) (c .none .ensures)
 
   judge-fields-row-at-requires : judge-fields-lts.Need-row-at-requires (judge-fields-claims t) (judge-fields-at t) judge-fields.Post judge-fields-Inv-loop judge-fields-μ-loop
-  judge-fields-row-at-requires c κs = in-table (as-row (fields-entry c .pre .1 .document))
+  judge-fields-row-at-requires c κs = in-table (as-row (fields-object c))
 
   judge-fields-row-at-requires-2 : judge-fields-lts.Need-row-at-requires-2 (judge-fields-claims t) (judge-fields-at t) judge-fields.Post judge-fields-Inv-loop judge-fields-μ-loop
-  judge-fields-row-at-requires-2 c κs = in-table (as-row (fields-object (c .before)))
+  judge-fields-row-at-requires-2 c κs = in-table (as-row (fields-entry (c .before) .pre .1 .document))
+
+  judge-fields-wide-requires : judge-fields-lts.Need-wide-requires (judge-fields-claims t) (judge-fields-at t) judge-fields.Post judge-fields-Inv-loop judge-fields-μ-loop
+  judge-fields-wide-requires c κs = tt
+
+  judge-fields-judge-wide-requires : judge-fields-lts.Need-judge-wide-requires (judge-fields-claims t) (judge-fields-at t) judge-fields.Post judge-fields-Inv-loop judge-fields-μ-loop
+  judge-fields-judge-wide-requires c κs =
+      let e = c .before .before .before .before in
+      let s = fields-entry e in
+      let few : word (s .args .rows2 .now) (s .args .fields) 3 ≤ 2048 = omega (arith, c .before .wide .ensures (c .if2 .taken), c .before .before .before .row-at .ensures .children) in
+      (omega (arith, s .pre .0), (s .pre .1, (fields-row e, few)))
+
+  judge-fields-returns-2 : judge-fields-lts.Need-returns-2 (judge-fields-claims t) (judge-fields-at t) judge-fields.Post judge-fields-Inv-loop judge-fields-μ-loop
+  judge-fields-returns-2 c = c .judge-wide .ensures
 
   judge-fields-add-row : judge-fields-lts.Need-add-row (judge-fields-claims t) (judge-fields-at t) judge-fields.Post judge-fields-Inv-loop judge-fields-μ-loop
-  judge-fields-add-row c = omega (arith, in-table (as-row (fields-object (c .before .before))) .here, fields-entry (c .before .before) .good)
+  judge-fields-add-row c = let e = c .before .before .before .before in omega (arith, in-table (as-row (fields-object e)) .here, fields-entry e .good)
 
   judge-fields-loop-holds : judge-fields-lts.Need-loop-holds (judge-fields-claims t) (judge-fields-at t) judge-fields.Post judge-fields-Inv-loop judge-fields-μ-loop
   judge-fields-loop-holds c =
-      let i = c .before .before in
-      fields-start (fields-entry i .pre .1) (fields-row i) (c .row-at2 .ensures .children)
+      let e = c .before .before .before .before in
+      fields-start (fields-entry e .pre .1) (fields-row e) (c .before .before .before .row-at .ensures .children)
 
   judge-fields-row-at-requires-3 : judge-fields-lts.Need-row-at-requires-3 (judge-fields-claims t) (judge-fields-at t) judge-fields.Post judge-fields-Inv-loop judge-fields-μ-loop
   judge-fields-row-at-requires-3 c κs = fields-here c .in-table
@@ -423,31 +508,17 @@ module _ (t : ℕ) where
   judge-fields-find-requires : judge-fields-lts.Need-find-requires (judge-fields-claims t) (judge-fields-at t) judge-fields.Post judge-fields-Inv-loop judge-fields-μ-loop
   judge-fields-find-requires c κs = turn-entry (c .before .before .before .before) .pre .1 .document
 
-  judge-fields-add-judge : judge-fields-lts.Need-add-judge (judge-fields-claims t) (judge-fields-at t) judge-fields.Post judge-fields-Inv-loop judge-fields-μ-loop
-  judge-fields-add-judge c = fields-fits (c .before .before .before .before .before .before)
-
-  judge-fields-judge-requires : judge-fields-lts.Need-judge-requires (judge-fields-claims t) (judge-fields-at t) judge-fields.Post judge-fields-Inv-loop judge-fields-μ-loop
-  judge-fields-judge-requires c κs = (fields-less (c .before .before .before .before .before .before), field-judgeable (fields-sought (c .before)) (c .if2 .taken))
-
-  judge-fields-returns-2 : judge-fields-lts.Need-returns-2 (judge-fields-claims t) (judge-fields-at t) judge-fields.Post judge-fields-Inv-loop judge-fields-μ-loop
-  judge-fields-returns-2 c =
-      let i = c .before .before .before in
-      field-fails (fields-sought (i .before)) (i .if2 .taken) (c .before .before .judge .ensures) (c .if3 .taken)
-
-  judge-fields-at-requires : judge-fields-lts.Need-at-requires (judge-fields-claims t) (judge-fields-at t) judge-fields.Post judge-fields-Inv-loop judge-fields-μ-loop
-  judge-fields-at-requires c κs = tt
+  judge-fields-judge-field-requires : judge-fields-lts.Need-judge-field-requires (judge-fields-claims t) (judge-fields-at t) judge-fields.Post judge-fields-Inv-loop judge-fields-μ-loop
+  judge-fields-judge-field-requires c κs = (fields-less (c .before .before .before .before .before), field-judgeable (fields-sought c))
 
   judge-fields-returns-3 : judge-fields-lts.Need-returns-3 (judge-fields-claims t) (judge-fields-at t) judge-fields.Post judge-fields-Inv-loop judge-fields-μ-loop
-  judge-fields-returns-3 c =
-      let f = c .before .before .before in
-      let brace = f .before .before .before .before .before .before .before .before .row-at .ensures .first in
-      field-missing (fields-sought f) (c .before .before .if2 .left) (c .before .if4 .taken) brace (c .at .ensures)
+  judge-fields-returns-3 c = field-fails (fields-sought (c .before .before .before)) (c .before .before .judge-field .ensures) (c .if3 .taken)
 
   judge-fields-add-row-at : judge-fields-lts.Need-add-row-at (judge-fields-claims t) (judge-fields-at t) judge-fields.Post judge-fields-Inv-loop judge-fields-μ-loop
-  judge-fields-add-row-at c = fields-fits (c .before .before .before .before .before .before)
+  judge-fields-add-row-at c = fields-fits (c .before .before .before .before .before .before .before .before)
 
   judge-fields-row-at-requires-4 : judge-fields-lts.Need-row-at-requires-4 (judge-fields-claims t) (judge-fields-at t) judge-fields.Post judge-fields-Inv-loop judge-fields-μ-loop
-  judge-fields-row-at-requires-4 c κs = in-table (fields-here (c .before .before .before .before .before .before) .value)
+  judge-fields-row-at-requires-4 c κs = in-table (fields-here (c .before .before .before .before .before .before .before .before) .value)
 
   judge-fields-sub-left : judge-fields-lts.Need-sub-left (judge-fields-claims t) (judge-fields-at t) judge-fields.Post judge-fields-Inv-loop judge-fields-μ-loop
   judge-fields-sub-left c = omega arith
@@ -456,7 +527,7 @@ module _ (t : ℕ) where
   judge-fields-loop-less c = omega arith
 
   judge-fields-loop-again : judge-fields-lts.Need-loop-again (judge-fields-claims t) (judge-fields-at t) judge-fields.Post judge-fields-Inv-loop judge-fields-μ-loop
-  judge-fields-loop-again c = field-next (fields-sought (c .before .before)) (fields-passed (c .before)) (c .row-at4 .ensures)
+  judge-fields-loop-again c = field-next (fields-sought (c .before .before .before .before)) (c .before .before .before .judge-field .ensures) (c .before .if3 .left) (c .row-at4 .ensures)
 
   judge-fields-none-requires-2 : judge-fields-lts.Need-none-requires-2 (judge-fields-claims t) (judge-fields-at t) judge-fields.Post judge-fields-Inv-loop judge-fields-μ-loop
   judge-fields-none-requires-2 c κs = tt
@@ -638,9 +709,124 @@ module _ (t : ℕ) where
       let f = g .before in
       optional-ends (object-body (f .before .before)) (object-required f) (g .judge-fields .ensures) (i .if2 .left) (object-optional (c .before)) (c .judge-fields2 .ensures)
 
-pub +judge+judge-array+judge-fields+judge-map+judge-object-spec : {M : Type 1} → statement M
-+judge+judge-array+judge-fields+judge-map+judge-object-spec =
-    close μ-judge μ-judge-array μ-judge-fields μ-judge-map μ-judge-object (λ t. judge-lts.spec (judge-claims t) (judge-at t)
+-- ---- judge_wide
+
+abbrev judge-wide-claims : ℕ → judge-wide-lts.Claims
+judge-wide-claims t = (
+  match-names-reads.Asked,
+  match-names-reads.Learnt,
+  row-at-reads.Asked,
+  row-at-reads.Learnt,
+  judge-field-below t,
+  judge-field.Post,
+  none-reads.Asked,
+  none-reads.Learnt,
+)
+
+abbrev judge-wide-Inv-loop : judge-wide-lts.InvT-loop
+judge-wide-Inv-loop document schema rows1 rows2 at fields required values count i₀ row₀ i row =
+    InWide document schema rows1 rows2 at fields required values count i row
+
+abbrev judge-wide-μ-loop : judge-wide-lts.MeasureT-loop
+judge-wide-μ-loop document schema rows1 rows2 at fields required values count i₀ row₀ i row = count - i
+
+module _ (t : ℕ) where
+  -- the fields
+  wide-object : (c : judge-wide-lts.Start (judge-wide-claims t) (judge-wide-at t) judge-wide.Post judge-wide-Inv-loop judge-wide-μ-loop) →
+      ObjectRow (c .args .schema .now) (c .args .rows2 .now) (c .args .fields)
+  wide-object c = part-object (c .pre .1 .0 .schema) (c .pre .1 .1 .0)
+
+  -- the entry, from a turn
+  abbrev wide-entry : judge-wide-lts.In-loop (judge-wide-claims t) (judge-wide-at t) judge-wide.Post judge-wide-Inv-loop judge-wide-μ-loop
+      → judge-wide-lts.Start (judge-wide-claims t) (judge-wide-at t) judge-wide.Post judge-wide-Inv-loop judge-wide-μ-loop
+  wide-entry c = c .before .before .before .before .before .before .before .before .before .before
+
+  -- the next field
+  wide-here : (c : judge-wide-lts.In-loop (judge-wide-claims t) (judge-wide-at t) judge-wide.Post judge-wide-Inv-loop judge-wide-μ-loop) →
+      let a = wide-entry c .args in
+      let l = c .before .loop in
+      FieldSought (a .document .now) (a .schema .now) (a .rows1 .now) (a .rows2 .now) (a .at) (a .fields) (a .required)
+      (l .row) (c .before .before .before .row-at .result .children - l .i) (getD (c .before .before .before .before .match-names .last .1 .1 .1 .1 .1 .1 .0) (l .i) 0)
+  wide-here c = wide-sought (c .before .loop .inv) (c .loop-test .taken)
+
+  wide-value : (c : judge-wide-lts.In-loop (judge-wide-claims t) (judge-wide-at t) judge-wide.Post judge-wide-Inv-loop judge-wide-μ-loop) →
+      let a = wide-entry c .args in
+      Rowed (a .schema .now) (a .rows2 .now) (c .before .loop .row + 1)
+  wide-value c = field-here (c .before .loop .inv .ahead) (wide-here c .some) .value
+
+  wide-less : (c : judge-wide-lts.In-loop (judge-wide-claims t) (judge-wide-at t) judge-wide.Post judge-wide-Inv-loop judge-wide-μ-loop) →
+      let a = wide-entry c .args in
+      3 * word (a .rows2 .now) (c .before .loop .row + 1) 4 + 2 < t
+  wide-less c =
+      let s = wide-entry c in
+      let rows = part-rows (s .args .rows2 .now) (s .args .fields) (s .pre .1 .1 .0) in
+      omega (arith, field-less (c .before .loop .inv .ahead) (wide-here c .some), rows, s .pre .0)
+
+  judge-wide-match-names-requires : judge-wide-lts.Need-match-names-requires (judge-wide-claims t) (judge-wide-at t) judge-wide.Post judge-wide-Inv-loop judge-wide-μ-loop
+  judge-wide-match-names-requires c κs = let s = c .before .before .before .before .before in (s .pre .1 .0 .document, (wide-object s, (s .pre .1 .1 .1, refl)))
+
+  judge-wide-row-at-requires : judge-wide-lts.Need-row-at-requires (judge-wide-claims t) (judge-wide-at t) judge-wide.Post judge-wide-Inv-loop judge-wide-μ-loop
+  judge-wide-row-at-requires c κs = in-table (as-row (wide-object (c .before .before .before .before .before .before)))
+
+  judge-wide-cast-count : judge-wide-lts.Need-cast-count (judge-wide-claims t) (judge-wide-at t) judge-wide.Post judge-wide-Inv-loop judge-wide-μ-loop
+  judge-wide-cast-count c = search needs
+
+  judge-wide-add-row : judge-wide-lts.Need-add-row (judge-wide-claims t) (judge-wide-at t) judge-wide.Post judge-wide-Inv-loop judge-wide-μ-loop
+  judge-wide-add-row c = let s = c .before .before .before .before .before .before .before .before in omega (arith, in-table (as-row (wide-object s)) .here, s .good)
+
+  judge-wide-loop-holds : judge-wide-lts.Need-loop-holds (judge-wide-claims t) (judge-wide-at t) judge-wide.Post judge-wide-Inv-loop judge-wide-μ-loop
+  judge-wide-loop-holds c =
+      let s = c .before .before .before .before .before .before .before .before in
+      let e = c .before .row-at .ensures .children in
+      wide-start (s .pre .1 .0) (s .pre .1 .1 .0) e (omega (arith, e, s .pre .1 .1 .1)) (c .before .before .match-names .ensures)
+
+  judge-wide-mul-value : judge-wide-lts.Need-mul-value (judge-wide-claims t) (judge-wide-at t) judge-wide.Post judge-wide-Inv-loop judge-wide-μ-loop
+  judge-wide-mul-value c = omega (arith, c .before .loop .inv .few, c .loop-test .taken)
+
+  judge-wide-array-read-value : judge-wide-lts.Need-array-read-value (judge-wide-claims t) (judge-wide-at t) judge-wide.Post judge-wide-Inv-loop judge-wide-μ-loop
+  judge-wide-array-read-value c = omega (arith, c .before .loop .inv .few, c .loop-test .taken)
+
+  judge-wide-judge-field-requires : judge-wide-lts.Need-judge-field-requires (judge-wide-claims t) (judge-wide-at t) judge-wide.Post judge-wide-Inv-loop judge-wide-μ-loop
+  judge-wide-judge-field-requires c κs = (wide-less c, field-judgeable (wide-here c))
+
+  judge-wide-returns : judge-wide-lts.Need-returns (judge-wide-claims t) (judge-wide-at t) judge-wide.Post judge-wide-Inv-loop judge-wide-μ-loop
+  judge-wide-returns c = field-fails (wide-here (c .before .before .before)) (c .before .before .judge-field .ensures) (c .if1 .taken)
+
+  judge-wide-add-row-at : judge-wide-lts.Need-add-row-at (judge-wide-claims t) (judge-wide-at t) judge-wide.Post judge-wide-Inv-loop judge-wide-μ-loop
+  judge-wide-add-row-at c = let i = c .before .before .before in omega (arith, in-table (wide-value i) .here, wide-entry i .good)
+
+  judge-wide-row-at-requires-2 : judge-wide-lts.Need-row-at-requires-2 (judge-wide-claims t) (judge-wide-at t) judge-wide.Post judge-wide-Inv-loop judge-wide-μ-loop
+  judge-wide-row-at-requires-2 c κs = in-table (wide-value (c .before .before .before))
+
+  judge-wide-add-i : judge-wide-lts.Need-add-i (judge-wide-claims t) (judge-wide-at t) judge-wide.Post judge-wide-Inv-loop judge-wide-μ-loop
+  judge-wide-add-i c = let i = c .before .before .before .before in omega (arith, i .before .loop .inv .few, i .loop-test .taken)
+
+  judge-wide-loop-less : judge-wide-lts.Need-loop-less (judge-wide-claims t) (judge-wide-at t) judge-wide.Post judge-wide-Inv-loop judge-wide-μ-loop
+  judge-wide-loop-less c = omega arith
+
+  judge-wide-loop-again : judge-wide-lts.Need-loop-again (judge-wide-claims t) (judge-wide-at t) judge-wide.Post judge-wide-Inv-loop judge-wide-μ-loop
+  judge-wide-loop-again c =
+      let i = c .before .before .before .before in
+      wide-next (i .before .loop .inv) (i .loop-test .taken) (c .before .before .before .judge-field .ensures) (c .before .if1 .left) (c .row-at2 .ensures)
+
+  judge-wide-none-requires : judge-wide-lts.Need-none-requires (judge-wide-claims t) (judge-wide-at t) judge-wide.Post judge-wide-Inv-loop judge-wide-μ-loop
+  judge-wide-none-requires c κs = tt
+
+  judge-wide-returns-2 : judge-wide-lts.Need-returns-2 (judge-wide-claims t) (judge-wide-at t) judge-wide.Post judge-wide-Inv-loop judge-wide-μ-loop
+  judge-wide-returns-2 c = wide-end (c .before .before .loop .inv) (c .before .loop-test .left) (c .none .ensures)
+
+pub +judge+judge-array+judge-field+judge-fields+judge-map+judge-object+judge-wide-spec :
+    {M : Type 1} → statement M
++judge+judge-array+judge-field+judge-fields+judge-map+judge-object+judge-wide-spec =
+    close
+    μ-judge
+    μ-judge-array
+    μ-judge-field
+    μ-judge-fields
+    μ-judge-map
+    μ-judge-object
+    μ-judge-wide
+    (λ t. judge-lts.spec (judge-claims t) (judge-at t)
     judge.Post
     (judge-row-at-requires t)
     (judge-judge-named-requires t)
@@ -682,6 +868,17 @@ pub +judge+judge-array+judge-fields+judge-map+judge-object-spec : {M : Type 1} �
     (judge-array-loop-again t)
     (judge-array-none-requires t)
     (judge-array-returns-3 t))
+    (λ t. judge-field-lts.spec (judge-field-claims t) (judge-field-at t)
+    judge-field.Post
+    (judge-field-add-judge t)
+    (judge-field-judge-requires t)
+    (judge-field-returns t)
+    (judge-field-row-at-requires t)
+    (judge-field-row-at-requires-2 t)
+    (judge-field-at-requires t)
+    (judge-field-returns-2 t)
+    (judge-field-none-requires t)
+    (judge-field-returns-3 t))
     (λ t. judge-fields-lts.spec (judge-fields-claims t) (judge-fields-at t)
     judge-fields.Post
     judge-fields-Inv-loop
@@ -690,6 +887,9 @@ pub +judge+judge-array+judge-fields+judge-map+judge-object-spec : {M : Type 1} �
     (judge-fields-returns t)
     (judge-fields-row-at-requires t)
     (judge-fields-row-at-requires-2 t)
+    (judge-fields-wide-requires t)
+    (judge-fields-judge-wide-requires t)
+    (judge-fields-returns-2 t)
     (judge-fields-add-row t)
     (judge-fields-loop-holds t)
     (judge-fields-row-at-requires-3 t)
@@ -701,10 +901,7 @@ pub +judge+judge-array+judge-fields+judge-map+judge-object-spec : {M : Type 1} �
     (judge-fields-part-find-start t)
     (judge-fields-part-find-end t)
     (judge-fields-find-requires t)
-    (judge-fields-add-judge t)
-    (judge-fields-judge-requires t)
-    (judge-fields-returns-2 t)
-    (judge-fields-at-requires t)
+    (judge-fields-judge-field-requires t)
     (judge-fields-returns-3 t)
     (judge-fields-add-row-at t)
     (judge-fields-row-at-requires-4 t)
@@ -733,7 +930,7 @@ pub +judge+judge-array+judge-fields+judge-map+judge-object-spec : {M : Type 1} �
     (judge-map-loop-again t)
     (judge-map-none-requires t)
     (judge-map-returns-3 t))
-    λ t. judge-object-lts.spec (judge-object-claims t) (judge-object-at t)
+    (λ t. judge-object-lts.spec (judge-object-claims t) (judge-object-at t)
     judge-object.Post
     (judge-object-row-at-requires t)
     (judge-object-row-at-requires-2 t)
@@ -748,4 +945,24 @@ pub +judge+judge-array+judge-fields+judge-map+judge-object-spec : {M : Type 1} �
     (judge-object-slice-aggregate-find-2 t)
     (judge-object-find-requires-2 t)
     (judge-object-judge-fields-requires-2 t)
-    (judge-object-returns-3 t)
+    (judge-object-returns-3 t))
+    λ t. judge-wide-lts.spec (judge-wide-claims t) (judge-wide-at t)
+    judge-wide.Post
+    judge-wide-Inv-loop
+    judge-wide-μ-loop
+    (judge-wide-match-names-requires t)
+    (judge-wide-row-at-requires t)
+    (judge-wide-cast-count t)
+    (judge-wide-add-row t)
+    (judge-wide-loop-holds t)
+    (judge-wide-mul-value t)
+    (judge-wide-array-read-value t)
+    (judge-wide-judge-field-requires t)
+    (judge-wide-returns t)
+    (judge-wide-add-row-at t)
+    (judge-wide-row-at-requires-2 t)
+    (judge-wide-add-i t)
+    (judge-wide-loop-less t)
+    (judge-wide-loop-again t)
+    (judge-wide-none-requires t)
+    (judge-wide-returns-2 t)

@@ -1,0 +1,149 @@
+-- What is found in one object for the indexed names of another, on plain values.
+use Prim.Native.Nat.{ℕ, zero, suc, _+_, _-_, _≤_, _<_}
+use mathlib.Core.Path.{_≡_, refl, ap, _∙_}
+use mathlib.Core.Logic.{⊎-elim}
+use mathlib.Core.Bool.{Bool, true, false}
+use mathlib.Core.List.{List}
+use native.Mathlib.Nat.{eq-or-lt-of-le}
+use native.Mathlib.Decide.{decLt}
+use native.Mathlib.Omega.{arith}
+use lib.ListN.{length, getD, set, replicate, length-replicate, getD-replicate}
+use lib.Seq.{getD-set-same, getD-set-other}
+use borrow.Author.Tests.{ne-eqb}
+use Rattle.model.specs.Text.{same}
+use Rattle.model.proofs.Basics.{by-test}
+use Rattle.chars.proofs.Facts.{same-true}
+use Rattle.reader.specs.Tree.{Members}
+use Rattle.reader.specs.Grammar.{nameOf}
+use Rattle.reader.specs.Holding.{word}
+use Rattle.schema.specs.Walking.{Reads, ObjectRow, Finds}
+use Rattle.schema.specs.Matching.{nameIn, bucketOf, bucketIn, lastIn, Indexed, Indexes, filled, Fills, FillsAll, Matches}
+use Rattle.schema.specs.declared.rows.Record.{Record}
+use Rattle.schema.proofs.Trees.{MembersLeft, MemberHere, members-start, member-here, members-next}
+use Rattle.schema.proofs.Finding.{Seeking, seek, seek-end, hit, missed}
+use Rattle.schema.proofs.Indexes.{bucket-small, last-most, last-found, last-skips}
+
+-- ---- along the chain of a bucket
+
+-- a row that was found stays
+pub filled-kept : (b : Bool) (r v : ℕ) → (v ≡ 0 → ⊥) → filled b r v ≡ v
+filled-kept true r v h = rw (ne-eqb v 0 h)
+filled-kept false r v h = refl
+
+-- the names from k on, of n, are settled, those before k as they were; the one before k, if any, lies in the bucket of m
+pub record Filling (s fs es : List ℕ) (n : ℕ) (m : List ℕ) (r : ℕ) (vs vs₂ : List ℕ) (k : ℕ) : Type 0 where
+  pub below : k ≤ n
+  pub chained : 0 < k → bucketIn s fs es (k - 1) ≡ bucketOf m
+  pub settled : (j : ℕ) → k ≤ j → j < n → getD vs₂ j 0 ≡ filled (same (nameIn s fs es j) m) r (getD vs j 0)
+  pub ahead : (j : ℕ) → j < k → getD vs₂ j 0 ≡ getD vs j 0
+
+-- a name in another bucket is another name
+other-bucket : (n m : List ℕ) → (bucketOf n ≡ bucketOf m → ⊥) → same n m ≡ false
+other-bucket n m f = by-test (same n m) (λ t. absurd (f (ap bucketOf (same-true n m t)))) (λ t. t)
+
+module _ {s hs ls fs es : List ℕ} {n : ℕ} (x : Indexed s hs ls fs es n) (m : List ℕ) {r : ℕ} {vs vs₂ : List ℕ} where
+  -- the last name of the bucket below i; those from i on are settled
+  from-last : (i : ℕ) → i ≤ n → ((j : ℕ) → i ≤ j → j < n → getD vs₂ j 0 ≡ filled (same (nameIn s fs es j) m) r (getD vs j 0))
+      → ((j : ℕ) → j < i → getD vs₂ j 0 ≡ getD vs j 0) → Filling s fs es n m r vs vs₂ (lastIn (bucketIn s fs es) (bucketOf m) i)
+  from-last i u f g =
+      let k = lastIn (bucketIn s fs es) (bucketOf m) i in
+      let w = last-most (bucketIn s fs es) (bucketOf m) i in
+      record {
+        below = omega arith;
+        chained = λ z. let e : k ≡ suc (k - 1) = omega arith in last-found (bucketIn s fs es) (bucketOf m) i (k - 1) e;
+        settled = λ j a l. go j a l (decLt j i);
+        ahead = λ j l. g j (omega arith);
+      }
+    where
+      go : (j : ℕ) → lastIn (bucketIn s fs es) (bucketOf m) i ≤ j → j < n → Dec (j < i) → getD vs₂ j 0 ≡ filled (same (nameIn s fs es j) m) r (getD vs j 0)
+      go j a l (yes v) = rw (other-bucket (nameIn s fs es j) m (λ q. last-skips (bucketIn s fs es) (bucketOf m) i j a v q)) (g j v)
+      go j a l (no v) = f j (omega arith) l
+
+-- the same for every number of names that are indexed
+pub record Along (s hs ls fs es m : List ℕ) (r : ℕ) (vs vs₂ : List ℕ) (k : ℕ) : Type 0 where
+  pub long : length vs₂ ≡ 2048
+  pub each : {n : ℕ} → Indexed s hs ls fs es n → Filling s fs es n m r vs vs₂ k
+
+module _ {s hs ls fs es : List ℕ} {n : ℕ} (x : Indexed s hs ls fs es n) {m : List ℕ} {r : ℕ} {vs : List ℕ} where
+  pub fill-begin : {b : ℕ} → b ≡ bucketOf m → Filling s fs es n m r vs vs (getD hs b 0)
+  fill-begin e = rw (e, x .heads (bucketOf m) (bucket-small m)) (from-last x m n (omega arith) (λ j a l. absurd (omega arith)) (λ j l. refl))
+
+  module _ {vs₂ : List ℕ} {k : ℕ} (d : Filling s fs es n m r vs vs₂ k) where
+    -- the name before k is settled, and leads on
+    pub fill-next : 0 < k → k - 1 < length vs₂ → {v : ℕ} → v ≡ filled (same (nameIn s fs es (k - 1)) m) r (getD vs₂ (k - 1) 0)
+        → Filling s fs es n m r vs (set vs₂ (k - 1) v) (getD ls (k - 1) 0)
+    fill-next l w {v} e =
+        let b = d .below in
+        rw (x .links (k - 1) (omega arith), d .chained l)
+        (from-last x m (k - 1) (omega arith)
+        (λ j a u. ⊎-elim (λ z. rw (← z, getD-set-same vs₂ (k - 1) v 0 w, e, d .ahead (k - 1) (omega arith)))
+        (λ y. getD-set-other vs₂ (k - 1) j v 0 (λ z. omega arith) ∙ d .settled j (omega arith) u) (eq-or-lt-of-le a))
+        (λ j u. getD-set-other vs₂ (k - 1) j v 0 (λ z. omega arith) ∙ d .ahead j (omega arith)))
+
+    -- links go down
+    pub fill-less : 0 < k → getD ls (k - 1) 0 < k
+    fill-less l = omega (arith, d .below, x .links (k - 1) (omega (arith, d .below)), last-most (bucketIn s fs es) (bucketIn s fs es (k - 1)) (k - 1))
+
+-- ---- the members of the other object, one after the other
+
+-- of one name: nothing is found so far, or its row
+pub record Sought (s t : List ℕ) (r : ℕ) (key : List ℕ) (here left v : ℕ) : Type 0 where
+  pub unseen : v ≡ 0 → Seeking s t r key here left
+  pub done : 0 < v → Finds s t r key v
+
+module _ {s t : List ℕ} {r : ℕ} {key : List ℕ} where
+  pub sought-none : (o : ObjectRow s t r) {left v : ℕ} → left ≡ word t r 3 → v ≡ 0 → Sought s t r key (r + 1) left v
+  sought-none o e z = record { unseen = λ _. seek o e; done = λ l. absurd (omega arith) }
+
+  pub sought-end : {here left v : ℕ} → Sought s t r key here left v → left ≤ 0 → Finds s t r key v
+  sought-end {v = zero} a l = seek-end (a .unseen refl) l
+  sought-end {v = suc v} a l = a .done (omega arith)
+
+  module _ {here left : ℕ} (l : 0 < left) {x : Record} (p : Reads t here x) {here₂ : ℕ} (q : here₂ ≡ here + 1 + word t (here + 1) 4) where
+    pub sought-next : (v w : ℕ) → Sought s t r key here left v → w ≡ filled (same key (nameOf s (x .first) (x .end))) (here + 1) v → Sought s t r key here₂ (left - 1) w
+    sought-next zero w a e =
+        by-test (same key (nameOf s (x .first) (x .end)))
+        (λ y. let z : w ≡ here + 1 = rw y at e in record { unseen = λ u. absurd (omega arith); done = λ _. rw z (hit (a .unseen refl) l p y) })
+        (λ y. let z : w ≡ 0 = rw y at e in record { unseen = λ _. missed (a .unseen refl) l p y q; done = λ u. absurd (omega arith) })
+    sought-next (suc v) w a e =
+        let z : w ≡ suc v = e ∙ filled-kept (same key (nameOf s (x .first) (x .end))) (here + 1) (suc v) (λ y. omega arith) in
+        record { unseen = λ u. absurd (omega arith); done = λ _. rw z (a .done (omega arith)) }
+
+-- before the member whose name is at row `here`, with `left` members not yet seen
+pub record Searching (s t : List ℕ) (r : ℕ) (s₂ hs ls fs es vs : List ℕ) (here left : ℕ) : Type 0 where
+  pub long : length vs ≡ 2048
+  pub rest : Members
+  pub ahead : MembersLeft s t here left rest
+  pub each : {n : ℕ} → Indexed s₂ hs ls fs es n → (j : ℕ) → j < n → Sought s t r (nameIn s₂ fs es j) here left (getD vs j 0)
+
+module _ {s t : List ℕ} {r : ℕ} {s₂ hs ls fs es : List ℕ} where
+  pub search-start : (o : ObjectRow s t r) {left : ℕ} {vs : List ℕ} → left ≡ word t r 3 → vs ≡ replicate 2048 0 → Searching s t r s₂ hs ls fs es vs (r + 1) left
+  search-start o e z = record {
+    long = ap length z ∙ length-replicate {A = ℕ} 2048 0;
+    rest = o .members;
+    ahead = members-start o e;
+    each = λ x j l. sought-none o e (rw z (getD-replicate 2048 j 0 0 (omega (arith, x .few))));
+  }
+
+  module _ {vs : List ℕ} {here left : ℕ} (a : Searching s t r s₂ hs ls fs es vs here left) where
+    pub search-end : left ≤ 0 → FillsAll s t r s₂ hs ls fs es vs
+    search-end l = record { tells = λ x j m. sought-end (a .each x j m) l }
+
+    module _ (l : 0 < left) where
+      pub search-name : MemberHere s t here (a .rest)
+      search-name = member-here (a .ahead) l
+
+      pub search-next : {x y : Record} {vs₂ : List ℕ} → Reads t here x → Reads t (here + 1) y → Fills s₂ hs ls fs es (nameOf s (x .first) (x .end)) (here + 1) vs vs₂
+          → Searching s t r s₂ hs ls fs es vs₂ (y .next) (left - 1)
+      search-next {vs₂ = vs₂} p q f = record {
+        long = f .long ∙ a .long;
+        rest = search-name .others;
+        ahead = members-next (a .ahead) search-name (q .next);
+        each = λ x j m. sought-next l p (q .next) (getD vs j 0) (getD vs₂ j 0) (a .each x j m) (f .tells x j m);
+      }
+
+-- ---- each name of an object, in another
+
+pub matches : {s₁ t₁ : List ℕ} {r₁ : ℕ} {s₂ t₂ : List ℕ} {r₂ : ℕ} {hs ls fs es vs : List ℕ} → Indexes s₂ t₂ r₂ hs ls fs es
+    → FillsAll s₁ t₁ r₁ s₂ hs ls fs es vs → Matches s₁ t₁ r₁ s₂ t₂ r₂ vs
+matches i f = record { tells = λ o j l. rw (i .lists .tells o j l) at (f .tells (i .tells o) j l) }

@@ -1,0 +1,93 @@
+-- `schema::matching::fill_all` meets its contract. The loop's invariant: what is found is so by the members before row `row`. The measure is how many are left.
+use Prim.Native.Nat.{_+_}
+use denote.Ref.{now}
+use mir.Syntax.{w64}
+use mir.Val.{Fits}
+use native.Mathlib.Omega.{arith}
+use borrow.Author.Needs.{needs}
+use Rattle.schema.proofs.Trees.{in-table, as-row, MemberHere}
+use Rattle.schema.proofs.Filling.{Searching, search-start, search-name, search-next, search-end}
+use Rattle.schema.proofs.matching.fill_all.Statement.{statement}
+use Rattle.schema.proofs.matching.fill_all.Tie as tie
+
+abbrev Inv-loop : tie.InvT-loop
+Inv-loop text1 table1 object text2 heads links firsts ends found₀ left₀ row₀ found left row =
+    Searching text1 table1 object text2 heads links firsts ends found row left
+
+abbrev μ-loop : tie.MeasureT-loop
+μ-loop text1 table1 object text2 heads links firsts ends found₀ left₀ row₀ found left row = left
+
+-- the member whose name is read in a turn
+name-here : (c : tie.In-loop Inv-loop μ-loop) → let a = c .before .before .before .before .before .before .args in
+    MemberHere (now (a .text1)) (now (a .table1)) (c .before .loop .row) (c .before .loop .inv .rest)
+name-here c = search-name (c .before .loop .inv) (c .loop-test .taken)
+
+fits : (c : tie.In-loop Inv-loop μ-loop) → Fits w64 (c .before .loop .row + 1)
+fits c = omega (arith, name-here c .in-table .here, c .before .before .before .before .before .before .good)
+
+row-at-requires : tie.Need-row-at-requires Inv-loop μ-loop
+row-at-requires c κs = in-table (as-row (c .before .before .before .pre .0))
+
+add-row : tie.Need-add-row Inv-loop μ-loop
+add-row c = let s = c .before .before .before .before in omega (arith, in-table (as-row (s .pre .0)) .here, s .good)
+
+loop-holds : tie.Need-loop-holds Inv-loop μ-loop
+loop-holds c = let s = c .before .before .before .before in search-start (s .pre .0) (c .row-at .ensures .children) (s .pre .1 .1)
+
+row-at-requires-2 : tie.Need-row-at-requires-2 Inv-loop μ-loop
+row-at-requires-2 c κs = name-here c .in-table
+
+cast-first : tie.Need-cast-first Inv-loop μ-loop
+cast-first c = search needs
+
+cast-end : tie.Need-cast-end Inv-loop μ-loop
+cast-end c = search needs
+
+add-fill : tie.Need-add-fill Inv-loop μ-loop
+add-fill c = fits (c .before .before .before)
+
+fill-requires : tie.Need-fill-requires Inv-loop μ-loop
+fill-requires c κs =
+    let i = c .before .before .before .before in
+    (rw (c .before .before .before .row-at2 .ensures .first, c .before .before .before .row-at2 .ensures .last) (name-here i .quoted), (i .before .before .before .before .before .before .pre .1 .0, i .before .loop .inv .long))
+
+add-row-at : tie.Need-add-row-at Inv-loop μ-loop
+add-row-at c = fits (c .before .before .before .before .before)
+
+row-at-requires-3 : tie.Need-row-at-requires-3 Inv-loop μ-loop
+row-at-requires-3 c κs = in-table (name-here (c .before .before .before .before .before) .value)
+
+sub-left : tie.Need-sub-left Inv-loop μ-loop
+sub-left c = omega arith
+
+loop-less : tie.Need-loop-less Inv-loop μ-loop
+loop-less c = omega arith
+
+loop-again : tie.Need-loop-again Inv-loop μ-loop
+loop-again c =
+    let i = c .before .before .before .before .before .before in
+    search-next (i .before .loop .inv) (i .loop-test .taken) (c .before .before .before .before .before .row-at2 .ensures) (c .row-at3 .ensures) (c .before .fill .ensures)
+
+returns : tie.Need-returns Inv-loop μ-loop
+returns c = search-end (c .before .loop .inv) (c .loop-test .left)
+
+pub fill-all-spec : {M : Type 1} → statement M
+fill-all-spec =
+    tie.close
+    (tie.spec
+    Inv-loop
+    μ-loop
+    row-at-requires
+    add-row
+    loop-holds
+    row-at-requires-2
+    cast-first
+    cast-end
+    add-fill
+    fill-requires
+    add-row-at
+    row-at-requires-3
+    sub-left
+    loop-less
+    loop-again
+    returns)

@@ -1,0 +1,22 @@
+-- `schema::matching::match_names` meets its contract.
+use Rattle.reader.specs.Rows.{countMembers}
+use Rattle.schema.proofs.Filling.{matches}
+use borrow.Author.Needs.{needs}
+use Rattle.schema.proofs.matching.match_names.Statement.{statement}
+use Rattle.schema.proofs.matching.match_names.Tie as tie
+
+index-names-requires : tie.Need-index-names-requires
+index-names-requires c κs = search needs
+
+fill-all-requires : tie.Need-fill-all-requires
+fill-all-requires c κs =
+    let s = c .before .before .before .before .before .before .before .before .before .before .before .before .before .before in
+    let i = c .before .before .before .before .before .index-names .ensures in
+    let o = s .pre .1 .0 in
+    (s .pre .0, (record { count = countMembers (o .members); index = i .tells o }, s .pre .1 .1 .1))
+
+returns : tie.Need-returns
+returns c = matches (c .before .before .before .before .before .before .index-names .ensures) (c .fill-all .ensures)
+
+pub match-names-spec : {M : Type 1} → statement M
+match-names-spec = tie.close (tie.spec index-names-requires fill-all-requires returns)
