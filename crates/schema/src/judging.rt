@@ -11,7 +11,6 @@ use crate::rows::find;
 use crate::rows::row_at;
 use date::is_date;
 ghost use mathlib.Core.Path.{_≡_};
-ghost use Prim.Native.Nat.{_≤_, _<_};
 ghost use Rattle.reader.specs.Holding.{word as wordOf};
 ghost use Rattle.schema.specs.Mismatch.{mismatch};
 ghost use Rattle.schema.specs.Walking.{Rowed, Judgeable, Judged, JudgedDate, ArrayJudgeable, MapJudgeable, BodyJudgeable, FieldsJudgeable, FieldsJudged};
@@ -195,12 +194,19 @@ fn judge_object(
         return Mismatch::at(20, value.first, row_at(rows2, by).first);
     }
     let required = find(schema, rows2, by + 2, b"required");
-    let found = judge_fields(document, schema, rows1, rows2, at, required, true);
+    let optional = find(schema, rows2, by + 2, b"optional");
+    if value.children < 32 {
+        let found = judge_fields(document, schema, rows1, rows2, at, required, true);
+        if found.code != 0 {
+            return found;
+        }
+        return judge_fields(document, schema, rows1, rows2, at, optional, false);
+    }
+    let found = judge_wide(document, schema, rows1, rows2, at, required, true);
     if found.code != 0 {
         return found;
     }
-    let optional = find(schema, rows2, by + 2, b"optional");
-    judge_fields(document, schema, rows1, rows2, at, optional, false)
+    judge_wide(document, schema, rows1, rows2, at, optional, false)
 }
 
 // The object at row `at` of the document against the fields at row `fields` of the schema, in their order; row 0 has none.
@@ -220,9 +226,6 @@ fn judge_fields(
         return Mismatch::none();
     }
     let mut left = row_at(rows2, fields).children;
-    if wide(row_at(rows1, at).children, left) {
-        return judge_wide(document, schema, rows1, rows2, at, fields, required);
-    }
     let mut row = fields + 1;
     while left > 0 {
         let name = row_at(rows2, row);
@@ -239,7 +242,8 @@ fn judge_fields(
     Mismatch::none()
 }
 
-// The same where both have many names: each is looked up by an index.
+// The same of an object with many members: where the fields are many too, each name is looked up by an index.
+// It is called twice, so that the compiler keeps its room out of the frames of `judge_object` and `judge_fields`.
 fn judge_wide(
     document: &[u8],
     schema: &[u8],
@@ -250,12 +254,18 @@ fn judge_wide(
     required: bool,
 ) -> Mismatch
     requires { ⌜ FieldsJudgeable (now document) (now schema) (now rows1) (now rows2) at fields ⌝ }
-    requires { ⌜ (0 < fields) × (wordOf (now rows2) fields 3 ≤ 2048) ⌝ }
     ensures { λ r. ⌜ FieldsJudged (now (document .entry)) (now (schema .entry)) (now (rows1 .entry)) (now (rows2 .entry)) at fields required r ⌝ }
 {
+    if fields == 0 {
+        return Mismatch::none();
+    }
+    let names = row_at(rows2, fields).children;
+    if !wide(names) {
+        return judge_fields(document, schema, rows1, rows2, at, fields, required);
+    }
     let mut values = [0usize; 2048];
     match_names(document, rows1, at, schema, rows2, fields, &mut values);
-    let count = row_at(rows2, fields).children as usize;
+    let count = names as usize;
     let mut i: usize = 0;
     let mut row = fields + 1;
     while i < count {

@@ -1,10 +1,11 @@
 -- The walk over a value and a definition meets its contracts. The measure is three times the rows of the definition, with one more in `judge` and
--- `judge_fields`, two in `judge_field`; fields that are absent, at row 0, count none. The loops' invariants are `InArray`, `InMap`, `InFields` and `InWide`;
+-- `judge_fields`, two in `judge_field` and `judge_wide`; fields that are absent, at row 0, count none. The loops' invariants are `InArray`, `InMap`, `InFields` and `InWide`;
 -- `Judges` has a law for each way out. Below each member's name stands what is known at its places.
 use Prim.Native.Nat.{ℕ, _+_, _-_, _*_, _≤_, _<_}
 use mathlib.Core.Path.{_≡_, refl, sym, _∙_}
 use native.Mathlib.Omega.{arith}
 use borrow.Author.Needs.{needs}
+use borrow.Author.Tests.{not-false}
 use lib.ListN.{length, getD}
 use mir.Syntax.{w64}
 use mir.Val.{Fits}
@@ -75,7 +76,7 @@ abbrev μ-judge-object : Measures 4 judge-object-kinds.ps ℕ
 μ-judge-object κs a = 3 * word (a .1 .1 .1 .0 .now) (a .1 .1 .1 .1 .1 .0) 4
 
 abbrev μ-judge-wide : Measures 4 judge-wide-kinds.ps ℕ
-μ-judge-wide κs a = 3 * partRows (a .1 .1 .1 .0 .now) (a .1 .1 .1 .1 .1 .0)
+μ-judge-wide κs a = 3 * partRows (a .1 .1 .1 .0 .now) (a .1 .1 .1 .1 .1 .0) + 2
 
 abbrev judge-at : ℕ → In 4 judge-kinds.ps
 judge-at t = and 4 judge-kinds.ps (is 4 judge-kinds.ps μ-judge t) judge.Pre
@@ -368,10 +369,6 @@ judge-fields-claims t = (
   none-reads.Learnt,
   row-at-reads.Asked,
   row-at-reads.Learnt,
-  wide-reads.Asked,
-  wide-reads.Learnt,
-  judge-wide-below t,
-  judge-wide.Post,
   find-reads.Asked,
   find-reads.Learnt,
   judge-field-below t,
@@ -388,10 +385,10 @@ module _ (t : ℕ) where
   -- the entry, where there are fields
   abbrev fields-entry : judge-fields-lts.Else1 (judge-fields-claims t) (judge-fields-at t) judge-fields.Post judge-fields-Inv-loop judge-fields-μ-loop
       → judge-fields-lts.Start (judge-fields-claims t) (judge-fields-at t) judge-fields.Post judge-fields-Inv-loop judge-fields-μ-loop
-  fields-entry c = c .before .before .before .before .before
+  fields-entry c = (c .before .before .before .before .before)
 
-  fields-row : (c : judge-fields-lts.Else1 (judge-fields-claims t) (judge-fields-at t) judge-fields.Post judge-fields-Inv-loop judge-fields-μ-loop)
-      → 0 < fields-entry c .args .fields
+  fields-row : (c : judge-fields-lts.Else1 (judge-fields-claims t) (judge-fields-at t) judge-fields.Post judge-fields-Inv-loop judge-fields-μ-loop) →
+      0 < fields-entry c .args .fields
   fields-row c = omega (arith, c .if1 .left)
 
   fields-object : (c : judge-fields-lts.Else1 (judge-fields-claims t) (judge-fields-at t) judge-fields.Post judge-fields-Inv-loop judge-fields-μ-loop) →
@@ -402,7 +399,7 @@ module _ (t : ℕ) where
   -- the entry, from a turn
   abbrev turn-start : judge-fields-lts.In-loop (judge-fields-claims t) (judge-fields-at t) judge-fields.Post judge-fields-Inv-loop judge-fields-μ-loop
       → judge-fields-lts.Else1 (judge-fields-claims t) (judge-fields-at t) judge-fields.Post judge-fields-Inv-loop judge-fields-μ-loop
-  turn-start c = c .before .before .before .before .before .before
+  turn-start c = (c .before .before .before)
 
   abbrev turn-entry : judge-fields-lts.In-loop (judge-fields-claims t) (judge-fields-at t) judge-fields.Post judge-fields-Inv-loop judge-fields-μ-loop
       → judge-fields-lts.Start (judge-fields-claims t) (judge-fields-at t) judge-fields.Post judge-fields-Inv-loop judge-fields-μ-loop
@@ -414,8 +411,8 @@ module _ (t : ℕ) where
       MemberHere (a .schema .now) (a .rows2 .now) (c .before .loop .row) (c .before .loop .inv .rest)
   fields-here c = field-here (c .before .loop .inv) (c .loop-test .taken)
 
-  fields-fits : (c : judge-fields-lts.In-loop (judge-fields-claims t) (judge-fields-at t) judge-fields.Post judge-fields-Inv-loop judge-fields-μ-loop)
-      → Fits w64 (c .before .loop .row + 1)
+  fields-fits : (c : judge-fields-lts.In-loop (judge-fields-claims t) (judge-fields-at t) judge-fields.Post judge-fields-Inv-loop judge-fields-μ-loop) →
+      Fits w64 (c .before .loop .row + 1)
   fields-fits c = omega (arith, in-table (fields-here c .value) .here, turn-entry c .good)
 
   fields-less : (c : judge-fields-lts.In-loop (judge-fields-claims t) (judge-fields-at t) judge-fields.Post judge-fields-Inv-loop judge-fields-μ-loop) →
@@ -427,62 +424,39 @@ module _ (t : ℕ) where
       omega (arith, field-less (c .before .loop .inv) (c .loop-test .taken), rows, s .pre .0)
 
   -- the quotes of its name
-  fields-quotes : (c : judge-fields-lts.After-row-at3 (judge-fields-claims t) (judge-fields-at t) judge-fields.Post judge-fields-Inv-loop judge-fields-μ-loop) →
-      let x = c .row-at3 .result in
+  fields-quotes : (c : judge-fields-lts.After-row-at2 (judge-fields-claims t) (judge-fields-at t) judge-fields.Post judge-fields-Inv-loop judge-fields-μ-loop) →
+      let x = c .row-at2 .result in
       (x .first + 2 ≤ x .end) × (x .end ≤ length (turn-entry (c .before) .args .schema .now))
-  fields-quotes c = quotes-read (c .row-at3 .ensures) (fields-here (c .before) .quoted)
+  fields-quotes c = quotes-read (c .row-at2 .ensures) (fields-here (c .before) .quoted)
 
   -- its name was looked up
   fields-sought : (c : judge-fields-lts.After-find (judge-fields-claims t) (judge-fields-at t) judge-fields.Post judge-fields-Inv-loop judge-fields-μ-loop) →
-      let r = c .before .before .before .before in
-      let a = turn-entry (r .before) .args in
-      FieldSought (a .document .now) (a .schema .now) (a .rows1 .now) (a .rows2 .now) (a .at) (a .fields) (a .required)
-      (r .before .before .loop .row) (r .before .before .loop .left) (c .find .result)
+      let a = turn-entry (c .before .before .before .before .before) .args in
+      FieldSought (a .document .now) (a .schema .now) (a .rows1 .now) (a .rows2 .now) (a .at) (a .fields) (a .required) (c .before .before .before .before .before .before .loop .row) (c .before .before .before .before .before .before .loop .left) (c .find .result)
   fields-sought c =
-      let r = c .before .before .before .before in
       record {
-        ahead = r .before .before .loop .inv;
-        some = r .before .loop-test .taken;
-        finds = rw (r .row-at3 .ensures .first, r .row-at3 .ensures .last) at (c .find .ensures);
+        ahead = c .before .before .before .before .before .before .loop .inv;
+        some = c .before .before .before .before .before .loop-test .taken;
+        finds = rw (c .before .before .before .before .row-at2 .ensures .first, c .before .before .before .before .row-at2 .ensures .last) at (c .find .ensures);
       }
 
   judge-fields-none-requires : judge-fields-lts.Need-none-requires (judge-fields-claims t) (judge-fields-at t) judge-fields.Post judge-fields-Inv-loop judge-fields-μ-loop
   judge-fields-none-requires c κs = tt
 
   judge-fields-returns : judge-fields-lts.Need-returns (judge-fields-claims t) (judge-fields-at t) judge-fields.Post judge-fields-Inv-loop judge-fields-μ-loop
-  judge-fields-returns c =
-      let s = c .before .before .before .before .before .before in
-      fields-none (s .args .required) (s .pre .1) (c .before .if1 .taken) (c .none .ensures)
+  judge-fields-returns c = fields-none (c .before .before .before .before .before .before .args .required) (c .before .before .before .before .before .before .pre .1) (c .before .if1 .taken) (c .none .ensures)
 
   judge-fields-row-at-requires : judge-fields-lts.Need-row-at-requires (judge-fields-claims t) (judge-fields-at t) judge-fields.Post judge-fields-Inv-loop judge-fields-μ-loop
   judge-fields-row-at-requires c κs = in-table (as-row (fields-object c))
 
-  judge-fields-row-at-requires-2 : judge-fields-lts.Need-row-at-requires-2 (judge-fields-claims t) (judge-fields-at t) judge-fields.Post judge-fields-Inv-loop judge-fields-μ-loop
-  judge-fields-row-at-requires-2 c κs = in-table (as-row (fields-entry (c .before) .pre .1 .document))
-
-  judge-fields-wide-requires : judge-fields-lts.Need-wide-requires (judge-fields-claims t) (judge-fields-at t) judge-fields.Post judge-fields-Inv-loop judge-fields-μ-loop
-  judge-fields-wide-requires c κs = tt
-
-  judge-fields-judge-wide-requires : judge-fields-lts.Need-judge-wide-requires (judge-fields-claims t) (judge-fields-at t) judge-fields.Post judge-fields-Inv-loop judge-fields-μ-loop
-  judge-fields-judge-wide-requires c κs =
-      let e = c .before .before .before .before in
-      let s = fields-entry e in
-      let few : word (s .args .rows2 .now) (s .args .fields) 3 ≤ 2048 = omega (arith, c .before .wide .ensures (c .if2 .taken), c .before .before .before .row-at .ensures .children) in
-      (omega (arith, s .pre .0), (s .pre .1, (fields-row e, few)))
-
-  judge-fields-returns-2 : judge-fields-lts.Need-returns-2 (judge-fields-claims t) (judge-fields-at t) judge-fields.Post judge-fields-Inv-loop judge-fields-μ-loop
-  judge-fields-returns-2 c = c .judge-wide .ensures
-
   judge-fields-add-row : judge-fields-lts.Need-add-row (judge-fields-claims t) (judge-fields-at t) judge-fields.Post judge-fields-Inv-loop judge-fields-μ-loop
-  judge-fields-add-row c = let e = c .before .before .before .before in omega (arith, in-table (as-row (fields-object e)) .here, fields-entry e .good)
+  judge-fields-add-row c = omega (arith, in-table (as-row (fields-object (c .before))) .here, fields-entry (c .before) .good)
 
   judge-fields-loop-holds : judge-fields-lts.Need-loop-holds (judge-fields-claims t) (judge-fields-at t) judge-fields.Post judge-fields-Inv-loop judge-fields-μ-loop
-  judge-fields-loop-holds c =
-      let e = c .before .before .before .before in
-      fields-start (fields-entry e .pre .1) (fields-row e) (c .before .before .before .row-at .ensures .children)
+  judge-fields-loop-holds c = fields-start (fields-entry (c .before) .pre .1) (fields-row (c .before)) (c .row-at .ensures .children)
 
-  judge-fields-row-at-requires-3 : judge-fields-lts.Need-row-at-requires-3 (judge-fields-claims t) (judge-fields-at t) judge-fields.Post judge-fields-Inv-loop judge-fields-μ-loop
-  judge-fields-row-at-requires-3 c κs = fields-here c .in-table
+  judge-fields-row-at-requires-2 : judge-fields-lts.Need-row-at-requires-2 (judge-fields-claims t) (judge-fields-at t) judge-fields.Post judge-fields-Inv-loop judge-fields-μ-loop
+  judge-fields-row-at-requires-2 c κs = fields-here c .in-table
 
   judge-fields-cast-from : judge-fields-lts.Need-cast-from (judge-fields-claims t) (judge-fields-at t) judge-fields.Post judge-fields-Inv-loop judge-fields-μ-loop
   judge-fields-cast-from c = search needs
@@ -511,14 +485,14 @@ module _ (t : ℕ) where
   judge-fields-judge-field-requires : judge-fields-lts.Need-judge-field-requires (judge-fields-claims t) (judge-fields-at t) judge-fields.Post judge-fields-Inv-loop judge-fields-μ-loop
   judge-fields-judge-field-requires c κs = (fields-less (c .before .before .before .before .before), field-judgeable (fields-sought c))
 
-  judge-fields-returns-3 : judge-fields-lts.Need-returns-3 (judge-fields-claims t) (judge-fields-at t) judge-fields.Post judge-fields-Inv-loop judge-fields-μ-loop
-  judge-fields-returns-3 c = field-fails (fields-sought (c .before .before .before)) (c .before .before .judge-field .ensures) (c .if3 .taken)
+  judge-fields-returns-2 : judge-fields-lts.Need-returns-2 (judge-fields-claims t) (judge-fields-at t) judge-fields.Post judge-fields-Inv-loop judge-fields-μ-loop
+  judge-fields-returns-2 c = field-fails (fields-sought (c .before .before .before)) (c .before .before .judge-field .ensures) (c .if2 .taken)
 
   judge-fields-add-row-at : judge-fields-lts.Need-add-row-at (judge-fields-claims t) (judge-fields-at t) judge-fields.Post judge-fields-Inv-loop judge-fields-μ-loop
   judge-fields-add-row-at c = fields-fits (c .before .before .before .before .before .before .before .before)
 
-  judge-fields-row-at-requires-4 : judge-fields-lts.Need-row-at-requires-4 (judge-fields-claims t) (judge-fields-at t) judge-fields.Post judge-fields-Inv-loop judge-fields-μ-loop
-  judge-fields-row-at-requires-4 c κs = in-table (fields-here (c .before .before .before .before .before .before .before .before) .value)
+  judge-fields-row-at-requires-3 : judge-fields-lts.Need-row-at-requires-3 (judge-fields-claims t) (judge-fields-at t) judge-fields.Post judge-fields-Inv-loop judge-fields-μ-loop
+  judge-fields-row-at-requires-3 c κs = in-table (fields-here (c .before .before .before .before .before .before .before .before) .value)
 
   judge-fields-sub-left : judge-fields-lts.Need-sub-left (judge-fields-claims t) (judge-fields-at t) judge-fields.Post judge-fields-Inv-loop judge-fields-μ-loop
   judge-fields-sub-left c = omega arith
@@ -527,13 +501,13 @@ module _ (t : ℕ) where
   judge-fields-loop-less c = omega arith
 
   judge-fields-loop-again : judge-fields-lts.Need-loop-again (judge-fields-claims t) (judge-fields-at t) judge-fields.Post judge-fields-Inv-loop judge-fields-μ-loop
-  judge-fields-loop-again c = field-next (fields-sought (c .before .before .before .before)) (c .before .before .before .judge-field .ensures) (c .before .if3 .left) (c .row-at4 .ensures)
+  judge-fields-loop-again c = field-next (fields-sought (c .before .before .before .before)) (c .before .before .before .judge-field .ensures) (c .before .if2 .left) (c .row-at3 .ensures)
 
   judge-fields-none-requires-2 : judge-fields-lts.Need-none-requires-2 (judge-fields-claims t) (judge-fields-at t) judge-fields.Post judge-fields-Inv-loop judge-fields-μ-loop
   judge-fields-none-requires-2 c κs = tt
 
-  judge-fields-returns-4 : judge-fields-lts.Need-returns-4 (judge-fields-claims t) (judge-fields-at t) judge-fields.Post judge-fields-Inv-loop judge-fields-μ-loop
-  judge-fields-returns-4 c = fields-end (c .before .before .loop .inv) (c .before .loop-test .left) (c .none2 .ensures)
+  judge-fields-returns-3 : judge-fields-lts.Need-returns-3 (judge-fields-claims t) (judge-fields-at t) judge-fields.Post judge-fields-Inv-loop judge-fields-μ-loop
+  judge-fields-returns-3 c = fields-end (c .before .before .loop .inv) (c .before .loop-test .left) (c .none2 .ensures)
 
 -- ---- judge_map
 
@@ -624,22 +598,24 @@ judge-object-claims t = (
   find-reads.Learnt,
   judge-fields-below t,
   judge-fields.Post,
+  judge-wide-below t,
+  judge-wide.Post,
 )
 
 module _ (t : ℕ) where
   -- the entry
   abbrev object-entry : judge-object-lts.After-row-at (judge-object-claims t) (judge-object-at t) judge-object.Post
       → judge-object-lts.Start (judge-object-claims t) (judge-object-at t) judge-object.Post
-  object-entry c = c .before .before .before .before .before
+  object-entry c = (c .before .before .before .before .before)
 
   -- an object, and the body of the definition
   object-body : (c : judge-object-lts.Else1 (judge-object-claims t) (judge-object-at t) judge-object.Post) →
       let a = object-entry (c .before .before) .args in
       InBody (a .document .now) (a .schema .now) (a .rows1 .now) (a .rows2 .now) (a .at) (a .by)
-  object-body c = let r = c .before .before in object-start (object-entry r .pre .1) (r .row-at .ensures) (c .if1 .left)
+  object-body c = object-start (object-entry (c .before .before) .pre .1) (c .before .before .row-at .ensures) (c .if1 .left)
 
-  object-fits : (c : judge-object-lts.Else1 (judge-object-claims t) (judge-object-at t) judge-object.Post)
-      → Fits w64 (object-entry (c .before .before) .args .by + 2)
+  object-fits : (c : judge-object-lts.Else1 (judge-object-claims t) (judge-object-at t) judge-object.Post) →
+      Fits w64 (object-entry (c .before .before) .args .by + 2)
   object-fits c = omega (arith, in-table (as-row (object-body c .body)) .here, object-entry (c .before .before) .good)
 
   -- the rows of both parts
@@ -649,7 +625,7 @@ module _ (t : ℕ) where
   object-required c = rw (plain .required) at (c .find .ensures)
 
   object-optional : (c : judge-object-lts.After-find2 (judge-object-claims t) (judge-object-at t) judge-object.Post) →
-      let a = object-entry (c .before .before .before .before .before .before .before .before .before) .args in
+      let a = object-entry (c .before .before .before .before .before .before) .args in
       Finds (a .schema .now) (a .rows2 .now) (a .by + 2) (text "optional") (c .find2 .result)
   object-optional c = rw (plain .optional) at (c .find2 .ensures)
 
@@ -663,9 +639,7 @@ module _ (t : ℕ) where
   judge-object-at-requires c κs = tt
 
   judge-object-returns : judge-object-lts.Need-returns (judge-object-claims t) (judge-object-at t) judge-object.Post
-  judge-object-returns c =
-      let r = c .before .before .before .before in
-      object-other (object-entry r .pre .1) (r .row-at .ensures) (c .before .row-at2 .ensures) (c .before .before .if1 .taken) (c .at .ensures)
+  judge-object-returns c = object-other (object-entry (c .before .before .before .before) .pre .1) (c .before .before .before .before .row-at .ensures) (c .before .row-at2 .ensures) (c .before .before .if1 .taken) (c .at .ensures)
 
   judge-object-add-find : judge-object-lts.Need-add-find (judge-object-claims t) (judge-object-at t) judge-object.Post
   judge-object-add-find c = object-fits c
@@ -676,77 +650,103 @@ module _ (t : ℕ) where
   judge-object-find-requires : judge-object-lts.Need-find-requires (judge-object-claims t) (judge-object-at t) judge-object.Post
   judge-object-find-requires c κs = object-body (c .before) .body
 
-  judge-object-judge-fields-requires : judge-object-lts.Need-judge-fields-requires (judge-object-claims t) (judge-object-at t) judge-object.Post
-  judge-object-judge-fields-requires c κs =
-      let i = c .before .before in
-      let o = object-body i in
-      (omega (arith, part-less o (object-required c), object-entry (i .before .before) .pre .0), fields-found o (object-required c) (o .first))
-
-  judge-object-returns-2 : judge-object-lts.Need-returns-2 (judge-object-claims t) (judge-object-at t) judge-object.Post
-  judge-object-returns-2 c =
-      let f = c .before .before .before in
-      required-stops (object-body (f .before .before)) (object-required f) (c .before .before .judge-fields .ensures) (c .if2 .taken)
-
   judge-object-add-find-2 : judge-object-lts.Need-add-find-2 (judge-object-claims t) (judge-object-at t) judge-object.Post
-  judge-object-add-find-2 c = object-fits (c .before .before .before .before .before)
+  judge-object-add-find-2 c = object-fits (c .before .before)
 
   judge-object-slice-aggregate-find-2 : judge-object-lts.Need-slice-aggregate-find-2 (judge-object-claims t) (judge-object-at t) judge-object.Post
   judge-object-slice-aggregate-find-2 c = search needs
 
   judge-object-find-requires-2 : judge-object-lts.Need-find-requires-2 (judge-object-claims t) (judge-object-at t) judge-object.Post
-  judge-object-find-requires-2 c κs = object-body (c .before .before .before .before .before .before) .body
+  judge-object-find-requires-2 c κs = object-body (c .before .before .before) .body
+
+  judge-object-judge-fields-requires : judge-object-lts.Need-judge-fields-requires (judge-object-claims t) (judge-object-at t) judge-object.Post
+  judge-object-judge-fields-requires c κs =
+      let o = object-body (c .before .before .before .before .before .before) in
+      (omega (arith, part-less o (object-required (c .before .before .before .before)), object-entry (c .before .before .before .before .before .before .before .before) .pre .0), fields-found o (object-required (c .before .before .before .before)) (o .first))
+
+  judge-object-returns-2 : judge-object-lts.Need-returns-2 (judge-object-claims t) (judge-object-at t) judge-object.Post
+  judge-object-returns-2 c = required-stops (object-body (c .before .before .before .before .before .before .before .before .before)) (object-required (c .before .before .before .before .before .before .before)) (c .before .before .judge-fields .ensures) (c .if3 .taken)
 
   judge-object-judge-fields-requires-2 : judge-object-lts.Need-judge-fields-requires-2 (judge-object-claims t) (judge-object-at t) judge-object.Post
   judge-object-judge-fields-requires-2 c κs =
-      let i = c .before .before .before .before .before .before .before in
-      let o = object-body i in
-      (omega (arith, part-less o (object-optional c), object-entry (i .before .before) .pre .0), fields-found o (object-optional c) (o .second))
+      let o = object-body (c .before .before .before .before .before .before .before .before .before) in
+      (omega (arith, part-less o (object-optional (c .before .before .before .before .before)), object-entry (c .before .before .before .before .before .before .before .before .before .before .before) .pre .0), fields-found o (object-optional (c .before .before .before .before .before)) (o .second))
 
   judge-object-returns-3 : judge-object-lts.Need-returns-3 (judge-object-claims t) (judge-object-at t) judge-object.Post
-  judge-object-returns-3 c =
-      let i = c .before .before .before in
-      let g = i .before .before in
-      let f = g .before in
-      optional-ends (object-body (f .before .before)) (object-required f) (g .judge-fields .ensures) (i .if2 .left) (object-optional (c .before)) (c .judge-fields2 .ensures)
+  judge-object-returns-3 c = optional-ends (object-body (c .before .before .before .before .before .before .before .before .before .before)) (object-required (c .before .before .before .before .before .before .before .before)) (c .before .before .before .judge-fields .ensures) (c .before .if3 .left) (object-optional (c .before .before .before .before .before .before)) (c .judge-fields2 .ensures)
+
+  judge-object-judge-wide-requires : judge-object-lts.Need-judge-wide-requires (judge-object-claims t) (judge-object-at t) judge-object.Post
+  judge-object-judge-wide-requires c κs =
+      let o = object-body (c .before .before .before .before .before .before) in
+      (omega (arith, part-less o (object-required (c .before .before .before .before)), object-entry (c .before .before .before .before .before .before .before .before) .pre .0), fields-found o (object-required (c .before .before .before .before)) (o .first))
+
+  judge-object-returns-4 : judge-object-lts.Need-returns-4 (judge-object-claims t) (judge-object-at t) judge-object.Post
+  judge-object-returns-4 c = required-stops (object-body (c .before .before .before .before .before .before .before .before .before)) (object-required (c .before .before .before .before .before .before .before)) (c .before .before .judge-wide .ensures) (c .if4 .taken)
+
+  judge-object-judge-wide-requires-2 : judge-object-lts.Need-judge-wide-requires-2 (judge-object-claims t) (judge-object-at t) judge-object.Post
+  judge-object-judge-wide-requires-2 c κs =
+      let o = object-body (c .before .before .before .before .before .before .before .before .before) in
+      (omega (arith, part-less o (object-optional (c .before .before .before .before .before)), object-entry (c .before .before .before .before .before .before .before .before .before .before .before) .pre .0), fields-found o (object-optional (c .before .before .before .before .before)) (o .second))
+
+  judge-object-returns-5 : judge-object-lts.Need-returns-5 (judge-object-claims t) (judge-object-at t) judge-object.Post
+  judge-object-returns-5 c = optional-ends (object-body (c .before .before .before .before .before .before .before .before .before .before)) (object-required (c .before .before .before .before .before .before .before .before)) (c .before .before .before .judge-wide .ensures) (c .before .if4 .left) (object-optional (c .before .before .before .before .before .before)) (c .judge-wide2 .ensures)
 
 -- ---- judge_wide
 
 abbrev judge-wide-claims : ℕ → judge-wide-lts.Claims
 judge-wide-claims t = (
-  match-names-reads.Asked,
-  match-names-reads.Learnt,
-  row-at-reads.Asked,
-  row-at-reads.Learnt,
-  judge-field-below t,
-  judge-field.Post,
   none-reads.Asked,
   none-reads.Learnt,
+  row-at-reads.Asked,
+  row-at-reads.Learnt,
+  wide-reads.Asked,
+  wide-reads.Learnt,
+  judge-fields-below t,
+  judge-fields.Post,
+  match-names-reads.Asked,
+  match-names-reads.Learnt,
+  judge-field-below t,
+  judge-field.Post,
 )
 
 abbrev judge-wide-Inv-loop : judge-wide-lts.InvT-loop
-judge-wide-Inv-loop document schema rows1 rows2 at fields required values count i₀ row₀ i row =
+judge-wide-Inv-loop document schema rows1 rows2 at fields required names values count i₀ row₀ i row =
     InWide document schema rows1 rows2 at fields required values count i row
 
 abbrev judge-wide-μ-loop : judge-wide-lts.MeasureT-loop
-judge-wide-μ-loop document schema rows1 rows2 at fields required values count i₀ row₀ i row = count - i
+judge-wide-μ-loop document schema rows1 rows2 at fields required names values count i₀ row₀ i row = count - i
 
 module _ (t : ℕ) where
-  -- the fields
-  wide-object : (c : judge-wide-lts.Start (judge-wide-claims t) (judge-wide-at t) judge-wide.Post judge-wide-Inv-loop judge-wide-μ-loop) →
-      ObjectRow (c .args .schema .now) (c .args .rows2 .now) (c .args .fields)
-  wide-object c = part-object (c .pre .1 .0 .schema) (c .pre .1 .1 .0)
+  -- the entry, where there are fields
+  abbrev wide-start-of : judge-wide-lts.Else1 (judge-wide-claims t) (judge-wide-at t) judge-wide.Post judge-wide-Inv-loop judge-wide-μ-loop
+      → judge-wide-lts.Start (judge-wide-claims t) (judge-wide-at t) judge-wide.Post judge-wide-Inv-loop judge-wide-μ-loop
+  wide-start-of c = (c .before .before .before .before .before)
+
+  wide-row : (c : judge-wide-lts.Else1 (judge-wide-claims t) (judge-wide-at t) judge-wide.Post judge-wide-Inv-loop judge-wide-μ-loop) →
+      0 < wide-start-of c .args .fields
+  wide-row c = omega (arith, c .if1 .left)
+
+  wide-object : (c : judge-wide-lts.Else1 (judge-wide-claims t) (judge-wide-at t) judge-wide.Post judge-wide-Inv-loop judge-wide-μ-loop) →
+      let a = wide-start-of c .args in
+      ObjectRow (a .schema .now) (a .rows2 .now) (a .fields)
+  wide-object c = part-object (wide-start-of c .pre .1 .schema) (wide-row c)
+
+  -- there is room for their names
+  wide-few : (c : judge-wide-lts.Else2 (judge-wide-claims t) (judge-wide-at t) judge-wide.Post judge-wide-Inv-loop judge-wide-μ-loop) →
+      let a = wide-start-of (c .before .before .before) .args in
+      word (a .rows2 .now) (a .fields) 3 ≤ 2048
+  wide-few c = omega (arith, c .before .wide .ensures (not-false _ (c .if2 .left)), c .before .before .row-at .ensures .children)
 
   -- the entry, from a turn
   abbrev wide-entry : judge-wide-lts.In-loop (judge-wide-claims t) (judge-wide-at t) judge-wide.Post judge-wide-Inv-loop judge-wide-μ-loop
       → judge-wide-lts.Start (judge-wide-claims t) (judge-wide-at t) judge-wide.Post judge-wide-Inv-loop judge-wide-μ-loop
-  wide-entry c = c .before .before .before .before .before .before .before .before .before .before
+  wide-entry c = wide-start-of (c .before .before .before .before .before .before .before)
 
   -- the next field
   wide-here : (c : judge-wide-lts.In-loop (judge-wide-claims t) (judge-wide-at t) judge-wide.Post judge-wide-Inv-loop judge-wide-μ-loop) →
       let a = wide-entry c .args in
-      let l = c .before .loop in
       FieldSought (a .document .now) (a .schema .now) (a .rows1 .now) (a .rows2 .now) (a .at) (a .fields) (a .required)
-      (l .row) (c .before .before .before .row-at .result .children - l .i) (getD (c .before .before .before .before .match-names .last .1 .1 .1 .1 .1 .1 .0) (l .i) 0)
+      (c .before .loop .row) (c .before .before .before .before .before .before .row-at .result .children - c .before .loop .i) (getD (c .before .before .match-names .last .1 .1 .1 .1 .1 .1 .0) (c .before .loop .i) 0)
   wide-here c = wide-sought (c .before .loop .inv) (c .loop-test .taken)
 
   wide-value : (c : judge-wide-lts.In-loop (judge-wide-claims t) (judge-wide-at t) judge-wide.Post judge-wide-Inv-loop judge-wide-μ-loop) →
@@ -759,26 +759,40 @@ module _ (t : ℕ) where
       3 * word (a .rows2 .now) (c .before .loop .row + 1) 4 + 2 < t
   wide-less c =
       let s = wide-entry c in
-      let rows = part-rows (s .args .rows2 .now) (s .args .fields) (s .pre .1 .1 .0) in
+      let rows = part-rows (s .args .rows2 .now) (s .args .fields) (wide-row (c .before .before .before .before .before .before .before)) in
       omega (arith, field-less (c .before .loop .inv .ahead) (wide-here c .some), rows, s .pre .0)
 
-  judge-wide-match-names-requires : judge-wide-lts.Need-match-names-requires (judge-wide-claims t) (judge-wide-at t) judge-wide.Post judge-wide-Inv-loop judge-wide-μ-loop
-  judge-wide-match-names-requires c κs = let s = c .before .before .before .before .before in (s .pre .1 .0 .document, (wide-object s, (s .pre .1 .1 .1, refl)))
+  judge-wide-none-requires : judge-wide-lts.Need-none-requires (judge-wide-claims t) (judge-wide-at t) judge-wide.Post judge-wide-Inv-loop judge-wide-μ-loop
+  judge-wide-none-requires c κs = tt
+
+  judge-wide-returns : judge-wide-lts.Need-returns (judge-wide-claims t) (judge-wide-at t) judge-wide.Post judge-wide-Inv-loop judge-wide-μ-loop
+  judge-wide-returns c = fields-none (c .before .before .before .before .before .before .args .required) (c .before .before .before .before .before .before .pre .1) (c .before .if1 .taken) (c .none .ensures)
 
   judge-wide-row-at-requires : judge-wide-lts.Need-row-at-requires (judge-wide-claims t) (judge-wide-at t) judge-wide.Post judge-wide-Inv-loop judge-wide-μ-loop
-  judge-wide-row-at-requires c κs = in-table (as-row (wide-object (c .before .before .before .before .before .before)))
+  judge-wide-row-at-requires c κs = in-table (as-row (wide-object c))
+
+  judge-wide-wide-requires : judge-wide-lts.Need-wide-requires (judge-wide-claims t) (judge-wide-at t) judge-wide.Post judge-wide-Inv-loop judge-wide-μ-loop
+  judge-wide-wide-requires c κs = tt
+
+  judge-wide-judge-fields-requires : judge-wide-lts.Need-judge-fields-requires (judge-wide-claims t) (judge-wide-at t) judge-wide.Post judge-wide-Inv-loop judge-wide-μ-loop
+  judge-wide-judge-fields-requires c κs = let s = wide-start-of (c .before .before .before) in (omega (arith, s .pre .0), s .pre .1)
+
+  judge-wide-returns-2 : judge-wide-lts.Need-returns-2 (judge-wide-claims t) (judge-wide-at t) judge-wide.Post judge-wide-Inv-loop judge-wide-μ-loop
+  judge-wide-returns-2 c = c .judge-fields .ensures
+
+  judge-wide-match-names-requires : judge-wide-lts.Need-match-names-requires (judge-wide-claims t) (judge-wide-at t) judge-wide.Post judge-wide-Inv-loop judge-wide-μ-loop
+  judge-wide-match-names-requires c κs = let s = wide-start-of (c .before .before .before .before) in (s .pre .1 .document, (wide-object (c .before .before .before .before), (wide-few (c .before), refl)))
 
   judge-wide-cast-count : judge-wide-lts.Need-cast-count (judge-wide-claims t) (judge-wide-at t) judge-wide.Post judge-wide-Inv-loop judge-wide-μ-loop
   judge-wide-cast-count c = search needs
 
   judge-wide-add-row : judge-wide-lts.Need-add-row (judge-wide-claims t) (judge-wide-at t) judge-wide.Post judge-wide-Inv-loop judge-wide-μ-loop
-  judge-wide-add-row c = let s = c .before .before .before .before .before .before .before .before in omega (arith, in-table (as-row (wide-object s)) .here, s .good)
+  judge-wide-add-row c = omega (arith, in-table (as-row (wide-object (c .before .before .before .before .before))) .here, wide-start-of (c .before .before .before .before .before) .good)
 
   judge-wide-loop-holds : judge-wide-lts.Need-loop-holds (judge-wide-claims t) (judge-wide-at t) judge-wide.Post judge-wide-Inv-loop judge-wide-μ-loop
   judge-wide-loop-holds c =
-      let s = c .before .before .before .before .before .before .before .before in
-      let e = c .before .row-at .ensures .children in
-      wide-start (s .pre .1 .0) (s .pre .1 .1 .0) e (omega (arith, e, s .pre .1 .1 .1)) (c .before .before .match-names .ensures)
+      let e = c .before .before .before .before .row-at .ensures .children in
+      wide-start (wide-start-of (c .before .before .before .before .before) .pre .1) (wide-row (c .before .before .before .before .before)) e (omega (arith, e, wide-few (c .before .before))) (c .match-names .ensures)
 
   judge-wide-mul-value : judge-wide-lts.Need-mul-value (judge-wide-claims t) (judge-wide-at t) judge-wide.Post judge-wide-Inv-loop judge-wide-μ-loop
   judge-wide-mul-value c = omega (arith, c .before .loop .inv .few, c .loop-test .taken)
@@ -789,31 +803,29 @@ module _ (t : ℕ) where
   judge-wide-judge-field-requires : judge-wide-lts.Need-judge-field-requires (judge-wide-claims t) (judge-wide-at t) judge-wide.Post judge-wide-Inv-loop judge-wide-μ-loop
   judge-wide-judge-field-requires c κs = (wide-less c, field-judgeable (wide-here c))
 
-  judge-wide-returns : judge-wide-lts.Need-returns (judge-wide-claims t) (judge-wide-at t) judge-wide.Post judge-wide-Inv-loop judge-wide-μ-loop
-  judge-wide-returns c = field-fails (wide-here (c .before .before .before)) (c .before .before .judge-field .ensures) (c .if1 .taken)
+  judge-wide-returns-3 : judge-wide-lts.Need-returns-3 (judge-wide-claims t) (judge-wide-at t) judge-wide.Post judge-wide-Inv-loop judge-wide-μ-loop
+  judge-wide-returns-3 c = field-fails (wide-here (c .before .before .before)) (c .before .before .judge-field .ensures) (c .if3 .taken)
 
   judge-wide-add-row-at : judge-wide-lts.Need-add-row-at (judge-wide-claims t) (judge-wide-at t) judge-wide.Post judge-wide-Inv-loop judge-wide-μ-loop
-  judge-wide-add-row-at c = let i = c .before .before .before in omega (arith, in-table (wide-value i) .here, wide-entry i .good)
+  judge-wide-add-row-at c = omega (arith, in-table (wide-value (c .before .before .before)) .here, wide-entry (c .before .before .before) .good)
 
   judge-wide-row-at-requires-2 : judge-wide-lts.Need-row-at-requires-2 (judge-wide-claims t) (judge-wide-at t) judge-wide.Post judge-wide-Inv-loop judge-wide-μ-loop
   judge-wide-row-at-requires-2 c κs = in-table (wide-value (c .before .before .before))
 
   judge-wide-add-i : judge-wide-lts.Need-add-i (judge-wide-claims t) (judge-wide-at t) judge-wide.Post judge-wide-Inv-loop judge-wide-μ-loop
-  judge-wide-add-i c = let i = c .before .before .before .before in omega (arith, i .before .loop .inv .few, i .loop-test .taken)
+  judge-wide-add-i c = omega (arith, c .before .before .before .before .before .loop .inv .few, c .before .before .before .before .loop-test .taken)
 
   judge-wide-loop-less : judge-wide-lts.Need-loop-less (judge-wide-claims t) (judge-wide-at t) judge-wide.Post judge-wide-Inv-loop judge-wide-μ-loop
   judge-wide-loop-less c = omega arith
 
   judge-wide-loop-again : judge-wide-lts.Need-loop-again (judge-wide-claims t) (judge-wide-at t) judge-wide.Post judge-wide-Inv-loop judge-wide-μ-loop
-  judge-wide-loop-again c =
-      let i = c .before .before .before .before in
-      wide-next (i .before .loop .inv) (i .loop-test .taken) (c .before .before .before .judge-field .ensures) (c .before .if1 .left) (c .row-at2 .ensures)
+  judge-wide-loop-again c = wide-next (c .before .before .before .before .before .loop .inv) (c .before .before .before .before .loop-test .taken) (c .before .before .before .judge-field .ensures) (c .before .if3 .left) (c .row-at2 .ensures)
 
-  judge-wide-none-requires : judge-wide-lts.Need-none-requires (judge-wide-claims t) (judge-wide-at t) judge-wide.Post judge-wide-Inv-loop judge-wide-μ-loop
-  judge-wide-none-requires c κs = tt
+  judge-wide-none-requires-2 : judge-wide-lts.Need-none-requires-2 (judge-wide-claims t) (judge-wide-at t) judge-wide.Post judge-wide-Inv-loop judge-wide-μ-loop
+  judge-wide-none-requires-2 c κs = tt
 
-  judge-wide-returns-2 : judge-wide-lts.Need-returns-2 (judge-wide-claims t) (judge-wide-at t) judge-wide.Post judge-wide-Inv-loop judge-wide-μ-loop
-  judge-wide-returns-2 c = wide-end (c .before .before .loop .inv) (c .before .loop-test .left) (c .none .ensures)
+  judge-wide-returns-4 : judge-wide-lts.Need-returns-4 (judge-wide-claims t) (judge-wide-at t) judge-wide.Post judge-wide-Inv-loop judge-wide-μ-loop
+  judge-wide-returns-4 c = wide-end (c .before .before .loop .inv) (c .before .loop-test .left) (c .none2 .ensures)
 
 pub +judge+judge-array+judge-field+judge-fields+judge-map+judge-object+judge-wide-spec :
     {M : Type 1} → statement M
@@ -886,13 +898,9 @@ pub +judge+judge-array+judge-field+judge-fields+judge-map+judge-object+judge-wid
     (judge-fields-none-requires t)
     (judge-fields-returns t)
     (judge-fields-row-at-requires t)
-    (judge-fields-row-at-requires-2 t)
-    (judge-fields-wide-requires t)
-    (judge-fields-judge-wide-requires t)
-    (judge-fields-returns-2 t)
     (judge-fields-add-row t)
     (judge-fields-loop-holds t)
-    (judge-fields-row-at-requires-3 t)
+    (judge-fields-row-at-requires-2 t)
     (judge-fields-cast-from t)
     (judge-fields-add-from t)
     (judge-fields-cast-to t)
@@ -902,14 +910,14 @@ pub +judge+judge-array+judge-field+judge-fields+judge-map+judge-object+judge-wid
     (judge-fields-part-find-end t)
     (judge-fields-find-requires t)
     (judge-fields-judge-field-requires t)
-    (judge-fields-returns-3 t)
+    (judge-fields-returns-2 t)
     (judge-fields-add-row-at t)
-    (judge-fields-row-at-requires-4 t)
+    (judge-fields-row-at-requires-3 t)
     (judge-fields-sub-left t)
     (judge-fields-loop-less t)
     (judge-fields-loop-again t)
     (judge-fields-none-requires-2 t)
-    (judge-fields-returns-4 t))
+    (judge-fields-returns-3 t))
     (λ t. judge-map-lts.spec (judge-map-claims t) (judge-map-at t)
     judge-map.Post
     judge-map-Inv-loop
@@ -939,30 +947,39 @@ pub +judge+judge-array+judge-field+judge-fields+judge-map+judge-object+judge-wid
     (judge-object-add-find t)
     (judge-object-slice-aggregate-find t)
     (judge-object-find-requires t)
-    (judge-object-judge-fields-requires t)
-    (judge-object-returns-2 t)
     (judge-object-add-find-2 t)
     (judge-object-slice-aggregate-find-2 t)
     (judge-object-find-requires-2 t)
+    (judge-object-judge-fields-requires t)
+    (judge-object-returns-2 t)
     (judge-object-judge-fields-requires-2 t)
-    (judge-object-returns-3 t))
+    (judge-object-returns-3 t)
+    (judge-object-judge-wide-requires t)
+    (judge-object-returns-4 t)
+    (judge-object-judge-wide-requires-2 t)
+    (judge-object-returns-5 t))
     λ t. judge-wide-lts.spec (judge-wide-claims t) (judge-wide-at t)
     judge-wide.Post
     judge-wide-Inv-loop
     judge-wide-μ-loop
-    (judge-wide-match-names-requires t)
+    (judge-wide-none-requires t)
+    (judge-wide-returns t)
     (judge-wide-row-at-requires t)
+    (judge-wide-wide-requires t)
+    (judge-wide-judge-fields-requires t)
+    (judge-wide-returns-2 t)
+    (judge-wide-match-names-requires t)
     (judge-wide-cast-count t)
     (judge-wide-add-row t)
     (judge-wide-loop-holds t)
     (judge-wide-mul-value t)
     (judge-wide-array-read-value t)
     (judge-wide-judge-field-requires t)
-    (judge-wide-returns t)
+    (judge-wide-returns-3 t)
     (judge-wide-add-row-at t)
     (judge-wide-row-at-requires-2 t)
     (judge-wide-add-i t)
     (judge-wide-loop-less t)
     (judge-wide-loop-again t)
-    (judge-wide-none-requires t)
-    (judge-wide-returns-2 t)
+    (judge-wide-none-requires-2 t)
+    (judge-wide-returns-4 t)
