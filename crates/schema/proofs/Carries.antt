@@ -1,5 +1,5 @@
 -- Whether a new definition is carried to an old one, on plain values: one law for each way out of the functions of `comparing` (01, demand 3).
-use Prim.Native.Nat.{ℕ, _+_, _-_, _≤_, _<_}
+use Prim.Native.Nat.{ℕ, zero, suc, _+_, _-_, _≤_, _<_}
 use mathlib.Core.Path.{_≡_, refl, sym, ap, ap₂, _∙_}
 use mathlib.Core.Bool.{Bool, true, false, not, cond, _&&_, _||_, true≢false}
 use mathlib.Core.Option.{Option, none, some}
@@ -7,6 +7,7 @@ use mathlib.Core.List.{List}
 use native.Mathlib.Omega.{arith}
 use denote.Enum.Declared.{tagOf}
 use types.Run.{OneOf, miss}
+use lib.ListN.{getD, replicate, getD-replicate}
 use lib.Dec.{T}
 use mir.Val.{hasKey}
 use Rattle.model.specs.Text.{text, same}
@@ -16,16 +17,17 @@ use Rattle.model.specs.Subtype.{subtype, subtypeFields, ofObjects, fieldOr, und
 use Rattle.model.specs.Meeting.{isSome}
 use Rattle.reader.specs.Tree.{Members, no-member, member}
 use Rattle.reader.specs.Grammar.{nameOf}
-use Rattle.reader.specs.Rows.{sizesMembers}
+use Rattle.reader.specs.Rows.{countMembers, sizesMembers}
 use Rattle.reader.specs.Holding.{word, PlacedMembers}
 use Rattle.schema.specs.Located.{Located, named-at, array-at, map-at, object-at, LocatedFields, no-field, fine, definitionAt}
 use Rattle.schema.specs.Located.{fieldsAt, plain, plainFields}
 use Rattle.schema.specs.Mismatch.{lookup}
 use Rattle.schema.specs.Names.{typeName, typeOf, bothNamed, subtypeName}
 use Rattle.schema.specs.Walking.{Reads, ObjectRow, Agrees, Finds}
+use Rattle.schema.specs.Matching.{nameAt, Matches}
 use Rattle.schema.specs.Comparing.{DefinedRow, typeIn, TypeRow, genericIn, GenericRow, IsJsonRow, OfObjectsRow, FieldsRow}
 use Rattle.schema.specs.Comparing.{fieldNamed, firstOf, definitionUnder, Gives}
-use Rattle.schema.specs.Comparing.{FindsField, FindsUnder, Pairing, PairingTo, Decided, fieldSubtype, fieldsSubtype}
+use Rattle.schema.specs.Comparing.{FindsField, FindsUnder, MatchesFields, MatchesUnder, Pairing, PairingTo, Decided, fieldSubtype, fieldsSubtype}
 use Rattle.schema.specs.Comparing.{FieldPairing, FieldDecided, FieldsPairing, FieldsDecided}
 use Rattle.schema.specs.declared.rows.Record.{Record}
 use Rattle.schema.specs.declared.names.TypeName.{TypeName}
@@ -38,6 +40,7 @@ use Rattle.schema.proofs.names.TypeName.{the-type}
 use Rattle.schema.proofs.Defining.{Added, added-fine}
 use Rattle.schema.proofs.Trees.{row, as-row, part-object, same-part, MembersLeft, MemberHere, members-start, member-here}
 use Rattle.schema.proofs.Trees.{members-next, members-end}
+use Rattle.schema.proofs.Filling.{Answers, answers-start, answers-here, answers-next}
 use Rattle.schema.proofs.Shapes.{Within, in-name, in-array, in-map, Fielded, in-object, fields-found, part-less}
 use Rattle.schema.proofs.Defines.{partRows}
 
@@ -216,6 +219,39 @@ module _ {s t : List ℕ} {r : ℕ} (o : GenericRow s t r Object) where
     in-optional l e {w = w} g k = record {
       tells = λ d. rw (object-fields d .is, e) (gives-second s t v (firsts key d) (seconds key d) w (h .tells (required-fields f d)) l (k .tells (optional-fields g d)));
     }
+
+-- `match_fields`
+module _ {s₁ t₁ : List ℕ} {r₁ : ℕ} {s₂ t₂ : List ℕ} {r₂ : ℕ} {vs : List ℕ} where
+  pub match-none : r₁ ≡ 0 → MatchesFields s₁ t₁ r₁ s₂ t₂ r₂ vs vs
+  match-none e = record { long = refl; fresh = λ o j l z. rw z (field-absent e); kept = λ o j l z. refl }
+
+  pub match-some : {vs₂ : List ℕ} → 0 < r₁ → Matches s₁ t₁ r₁ s₂ t₂ r₂ vs vs₂ → MatchesFields s₁ t₁ r₁ s₂ t₂ r₂ vs vs₂
+  match-some l m = record { long = m .long; fresh = λ o j k z. field-found l (m .tells o j k .fresh z); kept = λ o j k z. m .tells o j k .kept z }
+
+-- `match_under`: v was found for a name in "required", and w then in "optional"
+module _ {s t : List ℕ} {r : ℕ} (o : GenericRow s t r Object) {key : List ℕ} {required : Bool} {v₁ : ℕ} (f : Finds s t (r + 2) (text "required") v₁) where
+  required-only : (v : ℕ) → FindsField s t v₁ key v → required ≡ true → FindsUnder s t r key required v
+  required-only zero h e = not-required o f h (omega arith) e
+  required-only (suc v) h e = in-required o f h (omega arith)
+
+  required-first : (v w : ℕ) → FindsField s t v₁ key v → required ≡ false → {v₂ : ℕ} → Finds s t (r + 2) (text "optional") v₂ → (v ≡ 0 → FindsField s t v₂ key w)
+      → (0 < v → w ≡ v) → FindsUnder s t r key required w
+  required-first zero w h e g k z = in-optional o f h (omega arith) e g (k refl)
+  required-first (suc v) w h e g k z = rw (z (omega arith)) (in-required o f h (omega arith))
+
+module _ {s₁ t₁ : List ℕ} {r₁ : ℕ} {s₂ t₂ : List ℕ} {r₂ : ℕ} (o : GenericRow s₁ t₁ r₁ Object) (few : word t₂ r₂ 3 ≤ 2048)
+    {v₁ : ℕ} (f : Finds s₁ t₁ (r₁ + 2) (text "required") v₁) {vs : List ℕ} (h : MatchesFields s₁ t₁ v₁ s₂ t₂ r₂ (replicate 2048 0) vs) where
+  first-found : (p : ObjectRow s₂ t₂ r₂) (j : ℕ) → j < countMembers (p .members) → FindsField s₁ t₁ v₁ (nameAt s₂ (p .members) j) (getD vs j 0)
+  first-found p j l = h .fresh p j l (getD-replicate 2048 j 0 0 (omega (arith, few, members-start {left = word t₂ r₂ 3} p refl .counts)))
+
+  pub under-required : {required : Bool} → required ≡ true → MatchesUnder s₁ t₁ r₁ s₂ t₂ r₂ required vs
+  under-required e = record { tells = λ p j l. required-only o f (getD vs j 0) (first-found p j l) e }
+
+  pub under-any : {required : Bool} → required ≡ false → {v₂ : ℕ} → Finds s₁ t₁ (r₁ + 2) (text "optional") v₂ → {vs₂ : List ℕ} → MatchesFields s₁ t₁ v₂ s₂ t₂ r₂ vs vs₂
+      → MatchesUnder s₁ t₁ r₁ s₂ t₂ r₂ required vs₂
+  under-any e g {vs₂} k = record {
+    tells = λ p j l. required-first o f (getD vs j 0) (getD vs₂ j 0) (first-found p j l) e g (k .fresh p j l) (k .kept p j l);
+  }
 
 -- `find_under`
 abbrev pub of-kind : {s t : List ℕ} {r : ℕ} {g : Generic} → GenericRow s t r g → {k : Generic} → g ≡ k → (d : DefinedRow s t r) → k ≡ genericIn (d .definition)
@@ -502,19 +538,52 @@ module _ {s₁ s₂ t₁ t₂ : List ℕ} {r₁ r₂ : ℕ} {required : Bool} wh
           stays = λ q. (rw e at (all-fields q));
         }
 
--- ---- one field: its name was read as x, and v was found for it in the new definition
+-- the same where what the new definition has under each name was found before, in vs: i fields of `count` are compared
+pub record InWide (s₁ s₂ t₁ t₂ : List ℕ) (r₁ r₂ : ℕ) (required : Bool) (vs : List ℕ) (count i here : ℕ) : Type 0 where
+  pub few : count ≤ 2048
+  pub ahead : InFields s₁ s₂ t₁ t₂ r₁ r₂ required here (count - i)
+  pub matched : Answers (λ n v. FindsUnder s₁ t₁ r₁ n required v) s₂ (ahead .rest) vs i (count - i)
 
-pub record FieldSought (s₁ s₂ t₁ t₂ : List ℕ) (r₁ r₂ : ℕ) (required : Bool) (x : Record) (v : ℕ) : Type 0 where
-  pub reads : Reads t₂ r₂ x
-  pub finds : FindsUnder s₁ t₁ r₁ (nameOf s₂ (x .first) (x .end)) required v
+module _ {s₁ s₂ t₁ t₂ : List ℕ} {r₁ r₂ : ℕ} {required : Bool} {vs : List ℕ} {count : ℕ} where
+  pub wide-start : (p : FieldsPairing s₁ s₂ t₁ t₂ r₁ r₂) → 0 < r₂ → count ≡ word t₂ r₂ 3 → count ≤ 2048 → MatchesUnder s₁ t₁ r₁ s₂ t₂ r₂ required vs
+      → InWide s₁ s₂ t₁ t₂ r₁ r₂ required vs count 0 (r₂ + 1)
+  unfolding fields-start
+  wide-start p l e few m =
+      let o = part-object (p .old .part) l in
+      let c = members-start o e .counts in
+      record { few = few; ahead = fields-start p l (omega arith); matched = answers-start (λ j h. m .tells o j (omega arith)) }
 
-module _ {s₁ s₂ t₁ t₂ : List ℕ} {r₁ r₂ : ℕ} {required : Bool} {x : Record} {v : ℕ} (i : FieldSought s₁ s₂ t₁ t₂ r₁ r₂ required x v) where
+  module _ {i here : ℕ} (a : InWide s₁ s₂ t₁ t₂ r₁ r₂ required vs count i here) where
+    pub wide-end : count ≤ i → FieldsDecided s₁ s₂ t₁ t₂ r₁ r₂ required true
+    wide-end l = fields-end (a .ahead) (omega arith)
+
+    module _ (l : i < count) where
+      pub wide-some : 0 < count - i
+      wide-some = omega arith
+
+      pub wide-found : FindsUnder s₁ t₁ r₁ (nameOf s₂ (word t₂ here 1) (word t₂ here 2)) required (getD vs i 0)
+      wide-found = answers-here (a .matched) (here-member (a .ahead) wide-some) wide-some
+
+      pub wide-next : {b : Bool} → FieldDecided s₁ s₂ t₁ t₂ r₁ here required b → b ≡ true → {x : Record} → Reads t₂ (here + 1) x
+          → InWide s₁ s₂ t₁ t₂ r₁ r₂ required vs count (i + 1) (x .next)
+      unfolding field-next
+      wide-next h e p =
+          let z : count - i - 1 ≡ count - (i + 1) = omega arith in
+          record {
+            few = a .few;
+            ahead = rw z at (field-next (a .ahead) wide-some h e p);
+            matched = rw z at (answers-next (a .matched) (here-member (a .ahead) wide-some));
+          }
+
+-- ---- one field: v was found for its name in the new definition
+
+module _ {s₁ s₂ t₁ t₂ : List ℕ} {r₁ r₂ : ℕ} {required : Bool} {v : ℕ} (f : FindsUnder s₁ t₁ r₁ (nameOf s₂ (word t₂ r₂ 1) (word t₂ r₂ 2)) required v) where
   -- what the new definition has under the name
   abbrev has : FieldPairing s₁ s₂ t₁ t₂ r₁ r₂ → Option Def
   has p = definitionUnder required (plain (p .new .definition)) (nameOf s₂ (word t₂ r₂ 1) (word t₂ r₂ 2))
 
   gives : (p : FieldPairing s₁ s₂ t₁ t₂ r₁ r₂) → Gives s₁ t₁ v (has p)
-  gives p = rw (← i .reads .first, ← i .reads .last) (i .finds .tells (p .new))
+  gives p = f .tells (p .new)
 
   module _ (l : 0 < v) where
     pub found-pair : FieldPairing s₁ s₂ t₁ t₂ r₁ r₂ → Pairing s₁ s₂ t₁ t₂ v (r₂ + 1)

@@ -7,17 +7,18 @@ use mathlib.Core.List.{List}
 use native.Mathlib.Nat.{eq-or-lt-of-le}
 use native.Mathlib.Decide.{decLt}
 use native.Mathlib.Omega.{arith}
-use lib.ListN.{length, getD, set, replicate, length-replicate, getD-replicate}
+use lib.ListN.{length, getD, set, replicate, getD-replicate}
 use lib.Seq.{getD-set-same, getD-set-other}
 use borrow.Author.Tests.{ne-eqb}
 use Rattle.model.specs.Text.{same}
 use Rattle.model.proofs.Basics.{by-test}
 use Rattle.chars.proofs.Facts.{same-true}
 use Rattle.reader.specs.Tree.{Members}
+use Rattle.reader.specs.Rows.{countMembers}
 use Rattle.reader.specs.Grammar.{nameOf}
 use Rattle.reader.specs.Holding.{word}
 use Rattle.schema.specs.Walking.{Reads, ObjectRow, Finds}
-use Rattle.schema.specs.Matching.{nameIn, bucketOf, bucketIn, lastIn, Indexed, Indexes, filled, Fills, FillsAll, Matches}
+use Rattle.schema.specs.Matching.{nameAt, nameIn, bucketOf, bucketIn, lastIn, Indexed, Indexes, filled, Fills, FillsAll, Matches}
 use Rattle.schema.specs.declared.rows.Record.{Record}
 use Rattle.schema.proofs.Trees.{MembersLeft, MemberHere, members-start, member-here, members-next}
 use Rattle.schema.proofs.Finding.{Seeking, seek, seek-end, hit, missed}
@@ -109,41 +110,75 @@ module _ {s t : List ℕ} {r : ℕ} {key : List ℕ} where
         let z : w ≡ suc v = e ∙ filled-kept (same key (nameOf s (x .first) (x .end))) (here + 1) (suc v) (λ y. omega arith) in
         record { unseen = λ u. absurd (omega arith); done = λ _. rw z (a .done (omega arith)) }
 
+-- of one name for which v was found before
+pub record Adding (s t : List ℕ) (r : ℕ) (key : List ℕ) (here left v v₂ : ℕ) : Type 0 where
+  pub fresh : v ≡ 0 → Sought s t r key here left v₂
+  pub kept : 0 < v → v₂ ≡ v
+
 -- before the member whose name is at row `here`, with `left` members not yet seen
-pub record Searching (s t : List ℕ) (r : ℕ) (s₂ hs ls fs es vs : List ℕ) (here left : ℕ) : Type 0 where
-  pub long : length vs ≡ 2048
+pub record Searching (s t : List ℕ) (r : ℕ) (s₂ hs ls fs es vs vs₂ : List ℕ) (here left : ℕ) : Type 0 where
+  pub long : length vs₂ ≡ length vs
   pub rest : Members
   pub ahead : MembersLeft s t here left rest
-  pub each : {n : ℕ} → Indexed s₂ hs ls fs es n → (j : ℕ) → j < n → Sought s t r (nameIn s₂ fs es j) here left (getD vs j 0)
+  pub each : {n : ℕ} → Indexed s₂ hs ls fs es n → (j : ℕ) → j < n → Adding s t r (nameIn s₂ fs es j) here left (getD vs j 0) (getD vs₂ j 0)
 
-module _ {s t : List ℕ} {r : ℕ} {s₂ hs ls fs es : List ℕ} where
-  pub search-start : (o : ObjectRow s t r) {left : ℕ} {vs : List ℕ} → left ≡ word t r 3 → vs ≡ replicate 2048 0 → Searching s t r s₂ hs ls fs es vs (r + 1) left
-  search-start o e z = record {
-    long = ap length z ∙ length-replicate {A = ℕ} 2048 0;
+module _ {s t : List ℕ} {r : ℕ} {s₂ hs ls fs es vs : List ℕ} where
+  pub search-start : (o : ObjectRow s t r) {left : ℕ} → left ≡ word t r 3 → Searching s t r s₂ hs ls fs es vs vs (r + 1) left
+  search-start o e = record {
+    long = refl;
     rest = o .members;
     ahead = members-start o e;
-    each = λ x j l. sought-none o e (rw z (getD-replicate 2048 j 0 0 (omega (arith, x .few))));
+    each = λ x j l. record { fresh = λ z. sought-none o e z; kept = λ _. refl };
   }
 
-  module _ {vs : List ℕ} {here left : ℕ} (a : Searching s t r s₂ hs ls fs es vs here left) where
-    pub search-end : left ≤ 0 → FillsAll s t r s₂ hs ls fs es vs
-    search-end l = record { tells = λ x j m. sought-end (a .each x j m) l }
+  module _ {vs₂ : List ℕ} {here left : ℕ} (a : Searching s t r s₂ hs ls fs es vs vs₂ here left) where
+    pub search-end : left ≤ 0 → FillsAll s t r s₂ hs ls fs es vs vs₂
+    search-end l = record {
+      long = a .long;
+      tells = λ x j m. record { fresh = λ z. sought-end (a .each x j m .fresh z) l; kept = a .each x j m .kept };
+    }
 
     module _ (l : 0 < left) where
       pub search-name : MemberHere s t here (a .rest)
       search-name = member-here (a .ahead) l
 
-      pub search-next : {x y : Record} {vs₂ : List ℕ} → Reads t here x → Reads t (here + 1) y → Fills s₂ hs ls fs es (nameOf s (x .first) (x .end)) (here + 1) vs vs₂
-          → Searching s t r s₂ hs ls fs es vs₂ (y .next) (left - 1)
-      search-next {vs₂ = vs₂} p q f = record {
+      pub search-next : {x y : Record} {vs₃ : List ℕ} → Reads t here x → Reads t (here + 1) y → Fills s₂ hs ls fs es (nameOf s (x .first) (x .end)) (here + 1) vs₂ vs₃
+          → Searching s t r s₂ hs ls fs es vs vs₃ (y .next) (left - 1)
+      search-next {x = z} {vs₃ = vs₃} p q f = record {
         long = f .long ∙ a .long;
         rest = search-name .others;
         ahead = members-next (a .ahead) search-name (q .next);
-        each = λ x j m. sought-next l p (q .next) (getD vs j 0) (getD vs₂ j 0) (a .each x j m) (f .tells x j m);
+        each = λ x j m. record {
+          fresh = λ u. sought-next l p (q .next) (getD vs₂ j 0) (getD vs₃ j 0) (a .each x j m .fresh u) (f .tells x j m);
+          kept = λ u.
+              (let e = a .each x j m .kept u in
+              f .tells x j m ∙ filled-kept (same (nameIn s₂ fs es j) (nameOf s (z .first) (z .end))) (here + 1) (getD vs₂ j 0) (λ v. omega arith) ∙ e);
+        };
       }
 
 -- ---- each name of an object, in another
 
-pub matches : {s₁ t₁ : List ℕ} {r₁ : ℕ} {s₂ t₂ : List ℕ} {r₂ : ℕ} {hs ls fs es vs : List ℕ} → Indexes s₂ t₂ r₂ hs ls fs es
-    → FillsAll s₁ t₁ r₁ s₂ hs ls fs es vs → Matches s₁ t₁ r₁ s₂ t₂ r₂ vs
-matches i f = record { tells = λ o j l. rw (i .lists .tells o j l) at (f .tells (i .tells o) j l) }
+pub matches : {s₁ t₁ : List ℕ} {r₁ : ℕ} {s₂ t₂ : List ℕ} {r₂ : ℕ} {hs ls fs es vs vs₂ : List ℕ} → Indexes s₂ t₂ r₂ hs ls fs es
+    → FillsAll s₁ t₁ r₁ s₂ hs ls fs es vs vs₂ → Matches s₁ t₁ r₁ s₂ t₂ r₂ vs vs₂
+matches i f = record { long = f .long; tells = λ o j l. rw (i .lists .tells o j l) at (f .tells (i .tells o) j l) }
+
+-- where nothing was found before
+pub matched-fresh : {s₁ t₁ : List ℕ} {r₁ : ℕ} {s₂ t₂ : List ℕ} {r₂ : ℕ} {vs : List ℕ} → Matches s₁ t₁ r₁ s₂ t₂ r₂ (replicate 2048 0) vs → (o : ObjectRow s₂ t₂ r₂)
+    → countMembers (o .members) ≤ 2048 → (j : ℕ) → j < countMembers (o .members) → Finds s₁ t₁ r₁ (nameAt s₂ (o .members) j) (getD vs j 0)
+matched-fresh m o few j l = m .tells o j l .fresh (getD-replicate 2048 j 0 0 (omega arith))
+
+-- ---- what holds of the names of the members that are left, and of what was found for them in vs, from i on
+
+pub record Answers (P : List ℕ → ℕ → Type 0) (s : List ℕ) (rest : Members) (vs : List ℕ) (i left : ℕ) : Type 0 where
+  pub each : (j : ℕ) → j < left → P (nameAt s rest j) (getD vs (i + j) 0)
+
+module _ {P : List ℕ → ℕ → Type 0} {s : List ℕ} {vs : List ℕ} where
+  pub answers-start : {ms : Members} {n : ℕ} → ((j : ℕ) → j < n → P (nameAt s ms j) (getD vs j 0)) → Answers P s ms vs 0 n
+  answers-start f = record { each = λ j l. let z : 0 + j ≡ j = omega arith in rw z (f j l) }
+
+  module _ {t : List ℕ} {here i left : ℕ} {rest : Members} (a : Answers P s rest vs i left) (m : MemberHere s t here rest) where
+    pub answers-here : 0 < left → P (nameOf s (word t here 1) (word t here 2)) (getD vs i 0)
+    answers-here l = let z : i + 0 ≡ i = omega arith in rw (z, m .is) at (a .each 0 l)
+
+    pub answers-next : Answers P s (m .others) vs (i + 1) (left - 1)
+    answers-next = record { each = λ j l. let z : i + suc j ≡ i + 1 + j = omega arith in rw (z, m .is) at (a .each (suc j) (omega arith)) }

@@ -1,15 +1,14 @@
 -- The first mismatch of a value with a definition, on plain values: one law for each way out of the functions of `judging` (01, "Definitions": "First misfit").
-use Prim.Native.Nat.{ℕ, zero, suc, _+_, _-_, _≤_, _<_}
-use mathlib.Core.Path.{_≡_, refl, sym, ap, ap₂, subst, _∙_}
+use Prim.Native.Nat.{ℕ, _+_, _-_, _≤_, _<_}
+use mathlib.Core.Path.{_≡_, refl, sym, ap, ap₂, _∙_}
 use mathlib.Core.Bool.{Bool, true, false, cond}
 use mathlib.Core.Logic.{inl, inr}
-use mathlib.Core.Option.{Option, none, some}
+use mathlib.Core.Option.{Option, some}
 use mathlib.Core.List.{List, [], _∷_}
 use native.Mathlib.Omega.{arith}
-use native.Mathlib.Decide.{ℕ-discrete}
 use denote.Enum.Declared.{tagOf}
 use types.Run.{OneOf}
-use lib.ListN.{getD}
+use lib.ListN.{getD, replicate}
 use lib.Dec.{eqb}
 use borrow.Author.Tests.{eq-eqb, ne-eqb}
 use Rattle.model.specs.Text.{text}
@@ -17,20 +16,20 @@ use Rattle.model.specs.Date.{isDate}
 use Rattle.model.specs.Meeting.{isSome}
 use Rattle.model.specs.Definition.{Named, JSON, Schema, Float, Integer, String, Boolean, DateTime, namedBy, definitionOf}
 use Rattle.chars.specs.Tokens.{Kind, Null, False, True, Whole, Fractional, Quoted}
-use Rattle.reader.specs.Tree.{Node, scalar, array, object, Nodes, Members, member}
+use Rattle.reader.specs.Tree.{Node, scalar, array, object, Nodes, Members}
 use Rattle.reader.specs.Grammar.{nameOf}
 use Rattle.reader.specs.Spelling.{valueOf}
 use Rattle.reader.specs.Rows.{sizesMembers}
 use Rattle.reader.specs.Holding.{word}
 use Rattle.schema.specs.Located.{Located, named-at, array-at, map-at, object-at, LocatedFields, no-field, placeOf}
-use Rattle.schema.specs.Located.{Defined, faulty, fine, wrong, part}
+use Rattle.schema.specs.Located.{Defined, faulty, fine, part}
 use Rattle.schema.specs.Located.{definitionAt, partAt, fieldsAt}
 use Rattle.schema.specs.Mismatch.{mismatch, nothing, orElse, unless, isWhole, isNumber, isString, isBoolean, ifScalar, dateAt, namedAt}
-use Rattle.schema.specs.Mismatch.{firstElement, firstMember, lookup, judged, missing, skipped, mismatchAt, fieldsMismatch}
+use Rattle.schema.specs.Mismatch.{firstElement, firstMember, judged, missing, skipped, mismatchAt, fieldsMismatch}
 use Rattle.schema.specs.Names.{typeName, genericOf, takesKind}
 use Rattle.schema.specs.Walking.{Reads, ObjectRow, Finds, faultOf, Defines, Judgeable, Judged, JudgedDate}
 use Rattle.schema.specs.Walking.{ArrayJudgeable, MapJudgeable, BodyJudgeable, FieldsJudgeable, absence, FieldsJudged, FieldJudgeable, FieldJudged}
-use Rattle.schema.specs.Matching.{nameAt, Matches}
+use Rattle.schema.specs.Matching.{Matches}
 use Rattle.schema.specs.declared.rows.Record.{Record}
 use Rattle.schema.specs.declared.definitions.Fault.{Fault}
 use Rattle.schema.specs.declared.judging.Mismatch.{Mismatch}
@@ -50,6 +49,7 @@ use Rattle.schema.proofs.Trees.{same-tree, as-row, row-object, as-objec
 use Rattle.schema.proofs.Trees.{MembersLeft, MemberHere, members-start, member-here, members-next, members-end}
 use Rattle.schema.proofs.Trees.{ValuesLeft, ValueHere, values-start, value-here, values-next, values-end}
 use Rattle.schema.proofs.Trees.{ElementsLeft, ElementHere, elements-start, element-here, elements-next, elements-end}
+use Rattle.schema.proofs.Filling.{matched-fresh, Answers, answers-start, answers-here, answers-next}
 use Rattle.schema.proofs.Trees.{found, not-found, no-array, no-object, no-date}
 
 -- ---- what is judged first counts
@@ -596,10 +596,10 @@ module _ {s₁ s₂ t₁ t₂ : List ℕ} {r₁ r₂ : ℕ} {required : Bool} {h
 pub record InWide (s₁ s₂ t₁ t₂ : List ℕ) (r₁ r₂ : ℕ) (required : Bool) (vs : List ℕ) (count i here : ℕ) : Type 0 where
   pub few : count ≤ 2048
   pub ahead : InFields s₁ s₂ t₁ t₂ r₁ r₂ required here (count - i)
-  pub matched : (j : ℕ) → j < count - i → Finds s₁ t₁ r₁ (nameAt s₂ (ahead .rest) j) (getD vs (i + j) 0)
+  pub matched : Answers (Finds s₁ t₁ r₁) s₂ (ahead .rest) vs i (count - i)
 
 module _ {s₁ s₂ t₁ t₂ : List ℕ} {r₁ r₂ : ℕ} {required : Bool} {vs : List ℕ} {count : ℕ} where
-  pub wide-start : (j : FieldsJudgeable s₁ s₂ t₁ t₂ r₁ r₂) → 0 < r₂ → count ≡ word t₂ r₂ 3 → count ≤ 2048 → Matches s₁ t₁ r₁ s₂ t₂ r₂ vs
+  pub wide-start : (j : FieldsJudgeable s₁ s₂ t₁ t₂ r₁ r₂) → 0 < r₂ → count ≡ word t₂ r₂ 3 → count ≤ 2048 → Matches s₁ t₁ r₁ s₂ t₂ r₂ (replicate 2048 0) vs
       → InWide s₁ s₂ t₁ t₂ r₁ r₂ required vs count 0 (r₂ + 1)
   unfolding fields-start
   wide-start j l e few m =
@@ -608,7 +608,7 @@ module _ {s₁ s₂ t₁ t₂ : List ℕ} {r₁ r₂ : ℕ} {required : Bool} {v
       record {
         few = few;
         ahead = fields-start j l (omega arith);
-        matched = λ k h. let z : 0 + k ≡ k = omega arith in rw z (m .tells o k (omega arith));
+        matched = answers-start (λ k h. matched-fresh m o (omega arith) k (omega arith));
       }
 
   module _ {i here : ℕ} (a : InWide s₁ s₂ t₁ t₂ r₁ r₂ required vs count i here) where
@@ -618,9 +618,8 @@ module _ {s₁ s₂ t₁ t₂ : List ℕ} {r₁ r₂ : ℕ} {required : Bool} {v
     module _ (l : i < count) where
       pub wide-sought : FieldSought s₁ s₂ t₁ t₂ r₁ r₂ required here (count - i) (getD vs i 0)
       wide-sought =
-          let z : i + 0 ≡ i = omega arith in
           let h : 0 < count - i = omega arith in
-          record { ahead = a .ahead; some = h; finds = rw (z, field-here (a .ahead) h .is) at (a .matched 0 h) }
+          record { ahead = a .ahead; some = h; finds = answers-here (a .matched) (field-here (a .ahead) h) h }
 
       pub wide-next : {m : Mismatch} → FieldJudged s₁ s₂ t₁ t₂ r₁ (getD vs i 0) here required m → m .code ≡ 0 → {y : Record} → Reads t₂ (here + 1) y
           → InWide s₁ s₂ t₁ t₂ r₁ r₂ required vs count (i + 1) (y .next)
@@ -630,9 +629,7 @@ module _ {s₁ s₂ t₁ t₂ : List ℕ} {r₁ r₂ : ℕ} {required : Bool} {v
           record {
             few = a .few;
             ahead = rw z at (field-next wide-sought h c p);
-            matched = λ j u.
-                (let e : i + suc j ≡ i + 1 + j = omega arith in
-                rw (e, field-here (a .ahead) (wide-sought .some) .is) at (a .matched (suc j) (omega arith)));
+            matched = rw z at (answers-next (a .matched) (field-here (a .ahead) (wide-sought .some)));
           }
 
 -- ---- one field

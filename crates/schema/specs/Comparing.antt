@@ -1,19 +1,22 @@
 -- For private contracts: what the walkers of Compare are given, and what they answer.
-use Prim.Native.Nat.{ℕ, _+_, _<_}
+use Prim.Native.Nat.{ℕ, _+_, _≤_, _<_}
 use mathlib.Core.Path.{_≡_}
 use mathlib.Core.Bool.{Bool, true, false, cond, _&&_}
 use mathlib.Core.Option.{Option, none, some}
 use mathlib.Core.List.{List}
+use lib.ListN.{length, getD}
 use Rattle.model.specs.Text.{same}
 use Rattle.model.specs.Definition.{Def, named, JSON, array-of, map-of, object-of, Fields, fnil, fcons}
 use Rattle.model.specs.Subtype.{subtype, ofObjects}
 use Rattle.chars.specs.Spelling.{IsQuoted}
+use Rattle.reader.specs.Rows.{countMembers}
 use Rattle.reader.specs.Grammar.{nameOf}
 use Rattle.reader.specs.Holding.{word}
 use Rattle.schema.specs.Located.{Located, named-at, array-at, map-at, object-at, LocatedFields, fine, definitionAt, fieldsAt}
 use Rattle.schema.specs.Located.{plain, plainFields}
 use Rattle.schema.specs.Names.{typeName}
-use Rattle.schema.specs.Walking.{InTable, Rowed, PartRow}
+use Rattle.schema.specs.Walking.{InTable, Rowed, ObjectRow, PartRow}
+use Rattle.schema.specs.Matching.{nameAt}
 use Rattle.schema.specs.declared.names.TypeName.{TypeName}
 use Rattle.schema.specs.declared.names.TypeName.the-variants.{Unknown}
 use Rattle.schema.specs.declared.names.Generic.{Generic}
@@ -89,6 +92,21 @@ pub record FindsField (s t : List ℕ) (r : ℕ) (key : List ℕ) (v : ℕ) : Ty
 
 pub record FindsUnder (s t : List ℕ) (r : ℕ) (key : List ℕ) (required : Bool) (v : ℕ) : Type 0 where
   pub tells : (d : DefinedRow s t r) → Gives s t v (definitionUnder required (plain (d .definition)) key)
+
+-- what stands under each name of the object at row r₂ in the fields at row r₁: what was found before, vs, stays
+pub record MatchesFields (s₁ t₁ : List ℕ) (r₁ : ℕ) (s₂ t₂ : List ℕ) (r₂ : ℕ) (vs vs₂ : List ℕ) : Type 0 where
+  pub long : length vs₂ ≡ length vs
+  pub fresh : (o : ObjectRow s₂ t₂ r₂) (j : ℕ) → j < countMembers (o .members) → getD vs j 0 ≡ 0 → FindsField s₁ t₁ r₁ (nameAt s₂ (o .members) j) (getD vs₂ j 0)
+  pub kept : (o : ObjectRow s₂ t₂ r₂) (j : ℕ) → j < countMembers (o .members) → 0 < getD vs j 0 → getD vs₂ j 0 ≡ getD vs j 0
+
+-- the same in the definition at row r₁
+pub record MatchesUnder (s₁ t₁ : List ℕ) (r₁ : ℕ) (s₂ t₂ : List ℕ) (r₂ : ℕ) (required : Bool) (vs : List ℕ) : Type 0 where
+  pub tells : (o : ObjectRow s₂ t₂ r₂) (j : ℕ) → j < countMembers (o .members) → FindsUnder s₁ t₁ r₁ (nameAt s₂ (o .members) j) required (getD vs j 0)
+
+-- an Object with many names, beside n others for which there is room
+pub record ManyNames (s t : List ℕ) (r n : ℕ) : Type 0 where
+  pub is : GenericRow s t r Object
+  pub few : n ≤ 2048
 
 -- ---- two definitions
 

@@ -5,5 +5,5 @@ pub mod Check
 pub mod Compare
 pub mod Names
 pub mod Walking
-pub mod Comparing
 pub mod Matching
+pub mod Comparing

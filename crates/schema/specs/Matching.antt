@@ -75,10 +75,17 @@ pub record Fills (s hs ls fs es : List ℕ) (m : List ℕ) (r : ℕ) (vs vs₂ :
   pub long : length vs₂ ≡ length vs
   pub tells : {n : ℕ} → Indexed s hs ls fs es n → (j : ℕ) → j < n → getD vs₂ j 0 ≡ filled (same (nameIn s fs es j) m) r (getD vs j 0)
 
+-- what was found for the name n stays; else it is looked up in the object at row r
+pub record Adds (s t : List ℕ) (r : ℕ) (n : List ℕ) (v v₂ : ℕ) : Type 0 where
+  pub fresh : v ≡ 0 → Finds s t r n v₂
+  pub kept : 0 < v → v₂ ≡ v
+
 -- after all members of the object at row r
-pub record FillsAll (s t : List ℕ) (r : ℕ) (s₂ hs ls fs es vs : List ℕ) : Type 0 where
-  pub tells : {n : ℕ} → Indexed s₂ hs ls fs es n → (j : ℕ) → j < n → Finds s t r (nameIn s₂ fs es j) (getD vs j 0)
+pub record FillsAll (s t : List ℕ) (r : ℕ) (s₂ hs ls fs es vs vs₂ : List ℕ) : Type 0 where
+  pub long : length vs₂ ≡ length vs
+  pub tells : {n : ℕ} → Indexed s₂ hs ls fs es n → (j : ℕ) → j < n → Adds s t r (nameIn s₂ fs es j) (getD vs j 0) (getD vs₂ j 0)
 
 -- what stands in the object at row r₁ under each name of that at row r₂
-pub record Matches (s₁ t₁ : List ℕ) (r₁ : ℕ) (s₂ t₂ : List ℕ) (r₂ : ℕ) (vs : List ℕ) : Type 0 where
-  pub tells : (o : ObjectRow s₂ t₂ r₂) (j : ℕ) → j < countMembers (o .members) → Finds s₁ t₁ r₁ (nameAt s₂ (o .members) j) (getD vs j 0)
+pub record Matches (s₁ t₁ : List ℕ) (r₁ : ℕ) (s₂ t₂ : List ℕ) (r₂ : ℕ) (vs vs₂ : List ℕ) : Type 0 where
+  pub long : length vs₂ ≡ length vs
+  pub tells : (o : ObjectRow s₂ t₂ r₂) (j : ℕ) → j < countMembers (o .members) → Adds s₁ t₁ r₁ (nameAt s₂ (o .members) j) (getD vs j 0) (getD vs₂ j 0)

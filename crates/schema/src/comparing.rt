@@ -1,5 +1,7 @@
 // Compare (01, "Three services"): whether every value that meets the new definition meets the old one. 01's term is carried.
 use crate::checking::accept;
+use crate::matching::match_names;
+use crate::matching::wide;
 use crate::names::Generic;
 use crate::names::TypeName;
 use crate::names::generic_name;
@@ -8,13 +10,19 @@ use crate::rows::find;
 use crate::rows::row_at;
 use reader::Answer;
 ghost use mathlib.Core.Path.{_≡_};
-ghost use lib.ListN.{length};
+ghost use mathlib.Core.Bool.{true};
+ghost use Prim.Native.Nat.{_≤_, _<_};
+ghost use lib.ListN.{length, replicate};
 ghost use Rattle.chars.specs.Strings.{characters};
 ghost use Rattle.reader.specs.Answer.{tableOf};
+ghost use Rattle.reader.specs.Grammar.{nameOf};
+ghost use Rattle.reader.specs.Holding.{word as wordOf};
 ghost use Rattle.schema.specs.Check.{readSchema};
 ghost use Rattle.schema.specs.Compare.{Compares, compareTable};
 ghost use Rattle.schema.specs.Names.{subtypeName};
 ghost use Rattle.schema.specs.Comparing.{DefinedRow, TypeRow, GenericRow, IsJsonRow, OfObjectsRow, FieldsRow, FindsField, FindsUnder};
+ghost use Rattle.schema.specs.Walking.{ObjectRow};
+ghost use Rattle.schema.specs.Comparing.{MatchesFields, MatchesUnder, ManyNames};
 ghost use Rattle.schema.specs.Comparing.{Pairing, PairingTo, Decided, FieldPairing, FieldDecided, FieldsPairing, FieldsDecided};
 ghost use Rattle.schema.specs.declared.names.Generic.the-variants.{Array, Map, Object};
 
@@ -148,6 +156,90 @@ fn find_under(text: &[u8], table: &[u32], row: usize, key: &[u8], required: bool
     }
 }
 
+// Whether a part of an Object definition, its fields at a row, has many names beside `names` others; row 0 has none.
+fn wide_part(text: &[u8], table: &[u32], fields: usize, names: u32) -> bool
+    requires { ⌜ FieldsRow (now text) (now table) fields ⌝ }
+    ensures { λ r. ⌜ (r ≡ true → names ≤ 2048) ⌝ }
+{
+    if fields == 0 {
+        return false;
+    }
+    wide(row_at(table, fields).children, names)
+}
+
+// The same of a part of the Object definition at a row.
+fn wide_object(text: &[u8], table: &[u32], row: usize, names: u32) -> bool
+    requires { ⌜ DefinedRow (now text) (now table) row ⌝ }
+    requires { ⌜ GenericRow (now text) (now table) row Object ⌝ }
+    ensures { λ r. ⌜ (r ≡ true → names ≤ 2048) ⌝ }
+{
+    if wide_part(text, table, find(text, table, row + 2, b"required"), names) {
+        return true;
+    }
+    wide_part(text, table, find(text, table, row + 2, b"optional"), names)
+}
+
+// Whether the definition at a row is an Object with many names, beside `names` others.
+fn wide_under(text: &[u8], table: &[u32], row: usize, names: u32) -> bool
+    requires { ⌜ DefinedRow (now text) (now table) row ⌝ }
+    ensures { λ r. ⌜ (r ≡ true → ManyNames (now (text .entry)) (now (table .entry)) row names) ⌝ }
+{
+    if names < 32 {
+        return false;
+    }
+    match generic_at(text, table, row) {
+        Generic::Array => false,
+        Generic::Map => false,
+        Generic::Object => wide_object(text, table, row, names),
+        Generic::Other => false,
+    }
+}
+
+// For each member at row `part` of the second table for which nothing is found yet: the definition under its name in the fields at a row of the first.
+fn match_fields(
+    text1: &[u8],
+    table1: &[u32],
+    fields: usize,
+    text2: &[u8],
+    table2: &[u32],
+    part: usize,
+    found: &mut [usize; 2048],
+)
+    requires { ⌜ FieldsRow (now text1) (now table1) fields × ObjectRow (now text2) (now table2) part ⌝ }
+    requires { ⌜ (wordOf (now table2) part 3 ≤ 2048) × (length (now found) ≡ 2048) ⌝ }
+    ensures { λ _. ⌜ MatchesFields (now (text1 .entry)) (now (table1 .entry)) fields (now (text2 .entry)) (now (table2 .entry)) part (now (found .entry)) (now (found .exit)) ⌝ }
+{
+    if fields == 0 {
+        return;
+    }
+    match_names(text1, table1, fields, text2, table2, part, found);
+}
+
+// For each member at row `part` of the second table what `find_in_object` finds in the Object definition at a row of the first.
+fn match_under(
+    text1: &[u8],
+    table1: &[u32],
+    row: usize,
+    text2: &[u8],
+    table2: &[u32],
+    part: usize,
+    required: bool,
+    found: &mut [usize; 2048],
+)
+    requires { ⌜ DefinedRow (now text1) (now table1) row × GenericRow (now text1) (now table1) row Object ⌝ }
+    requires { ⌜ ObjectRow (now text2) (now table2) part ⌝ }
+    requires { ⌜ (wordOf (now table2) part 3 ≤ 2048) × (now found ≡ replicate 2048 0) ⌝ }
+    ensures { λ _. ⌜ MatchesUnder (now (text1 .entry)) (now (table1 .entry)) row (now (text2 .entry)) (now (table2 .entry)) part required (now (found .exit)) ⌝ }
+{
+    let first = find(text1, table1, row + 2, b"required");
+    match_fields(text1, table1, first, text2, table2, part, found);
+    if required {
+        return;
+    }
+    let second = find(text1, table1, row + 2, b"optional");
+    match_fields(text1, table1, second, text2, table2, part, found);
+}
+
 // Whether the new definition at row `a` is carried to the old one at row `b`.
 fn carried(new: &[u8], old: &[u8], rows1: &[u32], rows2: &[u32], a: usize, b: usize) -> bool
     requires { ⌜ Pairing (now new) (now old) (now rows1) (now rows2) a b ⌝ }
@@ -234,6 +326,9 @@ fn carried_fields(
         return true;
     }
     let mut left = row_at(rows2, fields).children;
+    if wide_under(new, rows1, a, left) {
+        return carried_wide(new, old, rows1, rows2, a, fields, required);
+    }
     let mut row = fields + 1;
     while left > 0 {
         if !carried_field(new, old, rows1, rows2, a, row, required) {
@@ -241,6 +336,36 @@ fn carried_fields(
         }
         row = row_at(rows2, row + 1).next;
         left -= 1;
+    }
+    true
+}
+
+// The same where both have many names: each is looked up by an index.
+fn carried_wide(
+    new: &[u8],
+    old: &[u8],
+    rows1: &[u32],
+    rows2: &[u32],
+    a: usize,
+    fields: usize,
+    required: bool,
+) -> bool
+    requires { ⌜ FieldsPairing (now new) (now old) (now rows1) (now rows2) a fields ⌝ }
+    requires { ⌜ (0 < fields) × ManyNames (now new) (now rows1) a (wordOf (now rows2) fields 3) ⌝ }
+    ensures { λ r. ⌜ FieldsDecided (now (new .entry)) (now (old .entry)) (now (rows1 .entry)) (now (rows2 .entry)) a fields required r ⌝ }
+{
+    let mut values = [0usize; 2048];
+    match_under(new, rows1, a, old, rows2, fields, required, &mut values);
+    let count = row_at(rows2, fields).children as usize;
+    let mut i: usize = 0;
+    let mut row = fields + 1;
+    while i < count {
+        let found = values[i];
+        if !carried_found(new, old, rows1, rows2, a, found, row, required) {
+            return false;
+        }
+        row = row_at(rows2, row + 1).next;
+        i += 1;
     }
     true
 }
@@ -262,6 +387,24 @@ fn carried_field(
     let from = name.first as usize + 1;
     let to = name.end as usize - 1;
     let found = find_under(new, rows1, a, &old[from..to], required);
+    carried_found(new, old, rows1, rows2, a, found, row, required)
+}
+
+// The same where row `found` of the new definition was found for the name, or 0.
+fn carried_found(
+    new: &[u8],
+    old: &[u8],
+    rows1: &[u32],
+    rows2: &[u32],
+    a: usize,
+    found: usize,
+    row: usize,
+    required: bool,
+) -> bool
+    requires { ⌜ FieldPairing (now new) (now old) (now rows1) (now rows2) a row ⌝ }
+    requires { ⌜ FindsUnder (now new) (now rows1) a (nameOf (now old) (wordOf (now rows2) row 1) (wordOf (now rows2) row 2)) required found ⌝ }
+    ensures { λ r. ⌜ FieldDecided (now (new .entry)) (now (old .entry)) (now (rows1 .entry)) (now (rows2 .entry)) a row required r ⌝ }
+{
     if found > 0 {
         return carried(new, old, rows1, rows2, found, row + 1);
     }

@@ -121,8 +121,8 @@ fn fill_all(
 )
     requires { ⌜ ObjectRow (now text1) (now table1) object ⌝ }
     requires { ⌜ HasIndex (now text2) (now heads) (now links) (now firsts) (now ends) ⌝ }
-    requires { ⌜ now found ≡ replicate 2048 0 ⌝ }
-    ensures { λ _. ⌜ FillsAll (now (text1 .entry)) (now (table1 .entry)) object (now (text2 .entry)) (now (heads .entry)) (now (links .entry)) (now (firsts .entry)) (now (ends .entry)) (now (found .exit)) ⌝ }
+    requires { ⌜ length (now found) ≡ 2048 ⌝ }
+    ensures { λ _. ⌜ FillsAll (now (text1 .entry)) (now (table1 .entry)) object (now (text2 .entry)) (now (heads .entry)) (now (links .entry)) (now (firsts .entry)) (now (ends .entry)) (now (found .entry)) (now (found .exit)) ⌝ }
 {
     let mut left = row_at(table1, object).children;
     let mut row = object + 1;
@@ -147,7 +147,8 @@ fn fill_all(
     }
 }
 
-// For each member at row `part` of the second table, in order, the row of the value under its name in the object at a row of the first; 0 where there is none.
+// For each member at row `part` of the second table, in order, for which nothing is found yet (0): the row of the value under its name in the object at a row
+// of the first; 0 where there is none.
 pub fn match_names(
     text1: &[u8],
     table1: &[u32],
@@ -159,8 +160,8 @@ pub fn match_names(
 )
     requires { ⌜ ObjectRow (now text1) (now table1) object ⌝ }
     requires { ⌜ ObjectRow (now text2) (now table2) part ⌝ }
-    requires { ⌜ (wordOf (now table2) part 3 ≤ 2048) × (now found ≡ replicate 2048 0) ⌝ }
-    ensures { λ _. ⌜ Matches (now (text1 .entry)) (now (table1 .entry)) object (now (text2 .entry)) (now (table2 .entry)) part (now (found .exit)) ⌝ }
+    requires { ⌜ (wordOf (now table2) part 3 ≤ 2048) × (length (now found) ≡ 2048) ⌝ }
+    ensures { λ _. ⌜ Matches (now (text1 .entry)) (now (table1 .entry)) object (now (text2 .entry)) (now (table2 .entry)) part (now (found .entry)) (now (found .exit)) ⌝ }
 {
     let mut heads = [0u16; 1024];
     let mut links = [0u16; 2048];

@@ -1,5 +1,6 @@
 -- `schema::matching::fill_all` meets its contract. The loop's invariant: what is found is so by the members before row `row`. The measure is how many are left.
 use Prim.Native.Nat.{_+_}
+use mathlib.Core.Path.{_∙_}
 use denote.Ref.{now}
 use mir.Syntax.{w64}
 use mir.Val.{Fits}
@@ -12,7 +13,7 @@ use Rattle.schema.proofs.matching.fill_all.Tie as tie
 
 abbrev Inv-loop : tie.InvT-loop
 Inv-loop text1 table1 object text2 heads links firsts ends found₀ left₀ row₀ found left row =
-    Searching text1 table1 object text2 heads links firsts ends found row left
+    Searching text1 table1 object text2 heads links firsts ends found₀ found row left
 
 abbrev μ-loop : tie.MeasureT-loop
 μ-loop text1 table1 object text2 heads links firsts ends found₀ left₀ row₀ found left row = left
@@ -32,7 +33,7 @@ add-row : tie.Need-add-row Inv-loop μ-loop
 add-row c = let s = c .before .before .before .before in omega (arith, in-table (as-row (s .pre .0)) .here, s .good)
 
 loop-holds : tie.Need-loop-holds Inv-loop μ-loop
-loop-holds c = let s = c .before .before .before .before in search-start (s .pre .0) (c .row-at .ensures .children) (s .pre .1 .1)
+loop-holds c = let s = c .before .before .before .before in search-start (s .pre .0) (c .row-at .ensures .children)
 
 row-at-requires-2 : tie.Need-row-at-requires-2 Inv-loop μ-loop
 row-at-requires-2 c κs = name-here c .in-table
@@ -49,7 +50,7 @@ add-fill c = fits (c .before .before .before)
 fill-requires : tie.Need-fill-requires Inv-loop μ-loop
 fill-requires c κs =
     let i = c .before .before .before .before in
-    (rw (c .before .before .before .row-at2 .ensures .first, c .before .before .before .row-at2 .ensures .last) (name-here i .quoted), (i .before .before .before .before .before .before .pre .1 .0, i .before .loop .inv .long))
+    (rw (c .before .before .before .row-at2 .ensures .first, c .before .before .before .row-at2 .ensures .last) (name-here i .quoted), (i .before .before .before .before .before .before .pre .1 .0, i .before .loop .inv .long ∙ i .before .before .before .before .before .before .pre .1 .1))
 
 add-row-at : tie.Need-add-row-at Inv-loop μ-loop
 add-row-at c = fits (c .before .before .before .before .before)

@@ -1,13 +1,11 @@
--- `schema::matching::wide` meets its contract.
-use Prim.Native.Nat.{ℕ}
-use mathlib.Core.Path.{_≡_}
-use native.Mathlib.Omega.{arith}
+-- `wide` meets its contract.
+use mathlib.Core.Bool.{false≢true}
 use borrow.Author.Needs.{needs}
 use Rattle.schema.proofs.matching.wide.Statement.{statement}
 use Rattle.schema.proofs.matching.wide.Tie as tie
 
 returns : tie.Need-returns
-returns c = λ e. let z : _≡_ {A = ℕ} 0 1 = cc in absurd (omega arith)
+returns c = λ e. absurd (false≢true e)
 
 returns-2 : tie.Need-returns-2
 returns-2 c = search needs

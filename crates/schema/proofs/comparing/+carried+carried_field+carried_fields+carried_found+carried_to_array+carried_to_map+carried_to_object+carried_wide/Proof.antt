@@ -1,6 +1,6 @@
--- The walk over two definitions meets its contracts. The measure is twice the rows of the old definition, with one or two more by the order of the calls; fields
--- that are absent, at row 0, count none. The loop's invariant is `InFields`; `Carries` has a law for each way out. Below each member's name stands what is known at its places.
-use Prim.Native.Nat.{ℕ, _+_, _*_, _≤_, _<_}
+-- The walk over two definitions meets its contracts. The measure is three times the rows of the old definition, with up to three more by the order of the calls;
+-- fields that are absent, at row 0, count none. The loops' invariants are `InFields` and `InWide`; `Carries` has a law for each way out. Below each member's name stands what is known at its places.
+use Prim.Native.Nat.{ℕ, _+_, _-_, _*_, _≤_, _<_}
 use mathlib.Core.Path.{_≡_, refl}
 use mathlib.Core.Bool.{true}
 use native.Mathlib.Omega.{arith}
@@ -22,55 +22,70 @@ use Rattle.schema.proofs.Carries.{by-name, array-less, array-pair, arra
 use Rattle.schema.proofs.Carries.{map-less, map-old, map-pair, map-map, map-object, map-other}
 use Rattle.schema.proofs.Carries.{object-row, object-other, object-less, required-pair, optional-pair, object-fails, object-ends}
 use Rattle.schema.proofs.Carries.{InFields, fields-none, fields-start, fields-end, field-less, field-pair, field-fails, field-next}
-use Rattle.schema.proofs.Carries.{FieldSought, found-pair, field-carried, field-missing, field-json}
+use Rattle.schema.proofs.Carries.{InWide, wide-start, wide-end, wide-some, wide-found, wide-next}
+use Rattle.schema.proofs.Carries.{found-pair, field-carried, field-missing, field-json}
 use borrow.Fn.Kinds.{In}
 use borrow.Fn.PlainCycle.{Measures, is, falls, and}
 use Rattle.schema.proofs.comparing.carried.Reads as carried
 use Rattle.schema.proofs.comparing.carried.Kinds as carried-kinds
-use Rattle.schema.proofs.comparing.+carried+carried_field+carried_fields+carried_to_array+carried_to_map+carried_to_object.Lts-carried as carried-lts
+use Rattle.schema.proofs.comparing.+carried+carried_field+carried_fields+carried_found+carried_to_array+carried_to_map+carried_to_object+carried_wide.Lts-carried as carried-lts
 use Rattle.schema.proofs.comparing.carried_field.Reads as carried-field
 use Rattle.schema.proofs.comparing.carried_field.Kinds as carried-field-kinds
-use Rattle.schema.proofs.comparing.+carried+carried_field+carried_fields+carried_to_array+carried_to_map+carried_to_object.Lts-carried_field as carried-field-lts
+use Rattle.schema.proofs.comparing.+carried+carried_field+carried_fields+carried_found+carried_to_array+carried_to_map+carried_to_object+carried_wide.Lts-carried_field as carried-field-lts
 use Rattle.schema.proofs.comparing.carried_fields.Reads as carried-fields
 use Rattle.schema.proofs.comparing.carried_fields.Kinds as carried-fields-kinds
-use Rattle.schema.proofs.comparing.+carried+carried_field+carried_fields+carried_to_array+carried_to_map+carried_to_object.Lts-carried_fields as carried-fields-lts
+use Rattle.schema.proofs.comparing.+carried+carried_field+carried_fields+carried_found+carried_to_array+carried_to_map+carried_to_object+carried_wide.Lts-carried_fields as carried-fields-lts
+use Rattle.schema.proofs.comparing.carried_found.Reads as carried-found
+use Rattle.schema.proofs.comparing.carried_found.Kinds as carried-found-kinds
+use Rattle.schema.proofs.comparing.+carried+carried_field+carried_fields+carried_found+carried_to_array+carried_to_map+carried_to_object+carried_wide.Lts-carried_found as carried-found-lts
 use Rattle.schema.proofs.comparing.carried_to_array.Reads as carried-to-array
 use Rattle.schema.proofs.comparing.carried_to_array.Kinds as carried-to-array-kinds
-use Rattle.schema.proofs.comparing.+carried+carried_field+carried_fields+carried_to_array+carried_to_map+carried_to_object.Lts-carried_to_array as carried-to-array-lts
+use Rattle.schema.proofs.comparing.+carried+carried_field+carried_fields+carried_found+carried_to_array+carried_to_map+carried_to_object+carried_wide.Lts-carried_to_array as carried-to-array-lts
 use Rattle.schema.proofs.comparing.carried_to_map.Reads as carried-to-map
 use Rattle.schema.proofs.comparing.carried_to_map.Kinds as carried-to-map-kinds
-use Rattle.schema.proofs.comparing.+carried+carried_field+carried_fields+carried_to_array+carried_to_map+carried_to_object.Lts-carried_to_map as carried-to-map-lts
+use Rattle.schema.proofs.comparing.+carried+carried_field+carried_fields+carried_found+carried_to_array+carried_to_map+carried_to_object+carried_wide.Lts-carried_to_map as carried-to-map-lts
 use Rattle.schema.proofs.comparing.carried_to_object.Reads as carried-to-object
 use Rattle.schema.proofs.comparing.carried_to_object.Kinds as carried-to-object-kinds
-use Rattle.schema.proofs.comparing.+carried+carried_field+carried_fields+carried_to_array+carried_to_map+carried_to_object.Lts-carried_to_object as carried-to-object-lts
+use Rattle.schema.proofs.comparing.+carried+carried_field+carried_fields+carried_found+carried_to_array+carried_to_map+carried_to_object+carried_wide.Lts-carried_to_object as carried-to-object-lts
+use Rattle.schema.proofs.comparing.carried_wide.Reads as carried-wide
+use Rattle.schema.proofs.comparing.carried_wide.Kinds as carried-wide-kinds
+use Rattle.schema.proofs.comparing.+carried+carried_field+carried_fields+carried_found+carried_to_array+carried_to_map+carried_to_object+carried_wide.Lts-carried_wide as carried-wide-lts
 use Rattle.schema.proofs.comparing.carried_name.Reads as carried-name-reads
 use Rattle.schema.proofs.comparing.find_under.Reads as find-under-reads
 use Rattle.schema.proofs.comparing.generic_at.Reads as generic-at-reads
 use Rattle.schema.proofs.comparing.is_json.Reads as is-json-reads
+use Rattle.schema.proofs.comparing.match_under.Reads as match-under-reads
 use Rattle.schema.proofs.comparing.of_objects.Reads as of-objects-reads
 use Rattle.schema.proofs.comparing.type_at.Reads as type-at-reads
+use Rattle.schema.proofs.comparing.wide_under.Reads as wide-under-reads
 use Rattle.schema.proofs.rows.find.Reads as find-reads
 use Rattle.schema.proofs.rows.row_at.Reads as row-at-reads
-use Rattle.schema.proofs.comparing.+carried+carried_field+carried_fields+carried_to_array+carried_to_map+carried_to_object.{statement}
-use Rattle.schema.proofs.comparing.+carried+carried_field+carried_fields+carried_to_array+carried_to_map+carried_to_object.Tie.{close}
+use Rattle.schema.proofs.comparing.+carried+carried_field+carried_fields+carried_found+carried_to_array+carried_to_map+carried_to_object+carried_wide.{statement}
+use Rattle.schema.proofs.comparing.+carried+carried_field+carried_fields+carried_found+carried_to_array+carried_to_map+carried_to_object+carried_wide.Tie.{close}
 
 abbrev μ-carried : Measures 4 carried-kinds.ps ℕ
-μ-carried κs a = 2 * word (a .1 .1 .1 .0 .now) (a .1 .1 .1 .1 .1 .0) 4 + 1
+μ-carried κs a = 3 * word (a .1 .1 .1 .0 .now) (a .1 .1 .1 .1 .1 .0) 4 + 1
 
 abbrev μ-carried-field : Measures 4 carried-field-kinds.ps ℕ
-μ-carried-field κs a = 2 * word (a .1 .1 .1 .0 .now) (a .1 .1 .1 .1 .1 .0 + 1) 4 + 2
+μ-carried-field κs a = 3 * word (a .1 .1 .1 .0 .now) (a .1 .1 .1 .1 .1 .0 + 1) 4 + 3
 
 abbrev μ-carried-fields : Measures 4 carried-fields-kinds.ps ℕ
-μ-carried-fields κs a = 2 * partRows (a .1 .1 .1 .0 .now) (a .1 .1 .1 .1 .1 .0) + 1
+μ-carried-fields κs a = 3 * partRows (a .1 .1 .1 .0 .now) (a .1 .1 .1 .1 .1 .0) + 1
+
+abbrev μ-carried-found : Measures 4 carried-found-kinds.ps ℕ
+μ-carried-found κs a = 3 * word (a .1 .1 .1 .0 .now) (a .1 .1 .1 .1 .1 .1 .0 + 1) 4 + 2
 
 abbrev μ-carried-to-array : Measures 4 carried-to-array-kinds.ps ℕ
-μ-carried-to-array κs a = 2 * word (a .1 .1 .1 .0 .now) (a .1 .1 .1 .1 .1 .0) 4
+μ-carried-to-array κs a = 3 * word (a .1 .1 .1 .0 .now) (a .1 .1 .1 .1 .1 .0) 4
 
 abbrev μ-carried-to-map : Measures 4 carried-to-map-kinds.ps ℕ
-μ-carried-to-map κs a = 2 * word (a .1 .1 .1 .0 .now) (a .1 .1 .1 .1 .1 .0) 4
+μ-carried-to-map κs a = 3 * word (a .1 .1 .1 .0 .now) (a .1 .1 .1 .1 .1 .0) 4
 
 abbrev μ-carried-to-object : Measures 4 carried-to-object-kinds.ps ℕ
-μ-carried-to-object κs a = 2 * word (a .1 .1 .1 .0 .now) (a .1 .1 .1 .1 .1 .0) 4
+μ-carried-to-object κs a = 3 * word (a .1 .1 .1 .0 .now) (a .1 .1 .1 .1 .1 .0) 4
+
+abbrev μ-carried-wide : Measures 4 carried-wide-kinds.ps ℕ
+μ-carried-wide κs a = 3 * partRows (a .1 .1 .1 .0 .now) (a .1 .1 .1 .1 .1 .0)
 
 abbrev carried-at : ℕ → In 4 carried-kinds.ps
 carried-at t = and 4 carried-kinds.ps (is 4 carried-kinds.ps μ-carried t) carried.Pre
@@ -90,6 +105,12 @@ carried-fields-at t = and 4 carried-fields-kinds.ps (is 4 carried-fields-kinds.p
 abbrev carried-fields-below : ℕ → In 4 carried-fields-kinds.ps
 carried-fields-below t = and 4 carried-fields-kinds.ps (falls 4 carried-fields-kinds.ps _<_ μ-carried-fields t) carried-fields.Pre
 
+abbrev carried-found-at : ℕ → In 4 carried-found-kinds.ps
+carried-found-at t = and 4 carried-found-kinds.ps (is 4 carried-found-kinds.ps μ-carried-found t) carried-found.Pre
+
+abbrev carried-found-below : ℕ → In 4 carried-found-kinds.ps
+carried-found-below t = and 4 carried-found-kinds.ps (falls 4 carried-found-kinds.ps _<_ μ-carried-found t) carried-found.Pre
+
 abbrev carried-to-array-at : ℕ → In 4 carried-to-array-kinds.ps
 carried-to-array-at t = and 4 carried-to-array-kinds.ps (is 4 carried-to-array-kinds.ps μ-carried-to-array t) carried-to-array.Pre
 
@@ -107,6 +128,12 @@ carried-to-object-at t = and 4 carried-to-object-kinds.ps (is 4 carried-to-objec
 
 abbrev carried-to-object-below : ℕ → In 4 carried-to-object-kinds.ps
 carried-to-object-below t = and 4 carried-to-object-kinds.ps (falls 4 carried-to-object-kinds.ps _<_ μ-carried-to-object t) carried-to-object.Pre
+
+abbrev carried-wide-at : ℕ → In 4 carried-wide-kinds.ps
+carried-wide-at t = and 4 carried-wide-kinds.ps (is 4 carried-wide-kinds.ps μ-carried-wide t) carried-wide.Pre
+
+abbrev carried-wide-below : ℕ → In 4 carried-wide-kinds.ps
+carried-wide-below t = and 4 carried-wide-kinds.ps (falls 4 carried-wide-kinds.ps _<_ μ-carried-wide t) carried-wide.Pre
 
 -- ---- carried
 
@@ -140,7 +167,7 @@ module _ (t : ℕ) where
 
   carried-less : (c : carried-lts.After-generic-at (carried-claims t) (carried-at t) carried.Post) →
       let a = carried-entry c .args in
-      2 * word (a .rows2 .now) (a .b) 4 < t
+      3 * word (a .rows2 .now) (a .b) 4 < t
   carried-less c = omega (arith, carried-entry c .pre .0)
 
   carried-generic-at-requires : carried-lts.Need-generic-at-requires (carried-claims t) (carried-at t) carried.Post
@@ -198,10 +225,8 @@ carried-field-claims t = (
   row-at-reads.Learnt,
   find-under-reads.Asked,
   find-under-reads.Learnt,
-  carried-below t,
-  carried.Post,
-  is-json-reads.Asked,
-  is-json-reads.Learnt,
+  carried-found-below t,
+  carried-found.Post,
 )
 
 module _ (t : ℕ) where
@@ -210,20 +235,6 @@ module _ (t : ℕ) where
       let x = c .row-at .result in
       (x .first + 2 ≤ x .end) × (x .end ≤ length (c .before .before .before .before .before .args .old .now))
   field-quotes c = quotes-read (c .row-at .ensures) (c .before .before .before .before .before .pre .1 .quoted)
-
-  -- what was found for it; the entry from there
-  abbrev field-entry : carried-field-lts.After-find-under (carried-field-claims t) (carried-field-at t) carried-field.Post
-      → carried-field-lts.Start (carried-field-claims t) (carried-field-at t) carried-field.Post
-  field-entry c = c .before .before .before .before .before .before .before .before .before
-
-  field-sought : (c : carried-field-lts.After-find-under (carried-field-claims t) (carried-field-at t) carried-field.Post) →
-      let a = field-entry c .args in
-      FieldSought (a .new .now) (a .old .now) (a .rows1 .now) (a .rows2 .now) (a .a) (a .row) (a .required) (c .before .before .before .before .row-at .result) (c .find-under .result)
-  field-sought c = record { reads = c .before .before .before .before .row-at .ensures; finds = c .find-under .ensures }
-
-  -- the row of its definition
-  field-fits : (c : carried-field-lts.After-find-under (carried-field-claims t) (carried-field-at t) carried-field.Post) → Fits w64 (field-entry c .args .row + 1)
-  field-fits c = omega (arith, in-table (field-entry c .pre .1 .old .row) .here, field-entry c .good)
 
   carried-field-row-at-requires : carried-field-lts.Need-row-at-requires (carried-field-claims t) (carried-field-at t) carried-field.Post
   carried-field-row-at-requires c κs = c .before .before .before .before .pre .1 .name
@@ -252,33 +263,28 @@ module _ (t : ℕ) where
   carried-field-find-under-requires : carried-field-lts.Need-find-under-requires (carried-field-claims t) (carried-field-at t) carried-field.Post
   carried-field-find-under-requires c κs = c .before .before .before .before .before .before .before .before .pre .1 .new
 
-  carried-field-add-carried : carried-field-lts.Need-add-carried (carried-field-claims t) (carried-field-at t) carried-field.Post
-  carried-field-add-carried c = field-fits (c .before)
-
-  carried-field-carried-requires : carried-field-lts.Need-carried-requires (carried-field-claims t) (carried-field-at t) carried-field.Post
-  carried-field-carried-requires c κs =
-      let s = field-entry (c .before) in
-      (omega (arith, s .pre .0), found-pair (field-sought (c .before)) (c .if1 .taken) (s .pre .1))
+  carried-field-carried-found-requires : carried-field-lts.Need-carried-found-requires (carried-field-claims t) (carried-field-at t) carried-field.Post
+  carried-field-carried-found-requires c κs =
+      let s = c .before .before .before .before .before .before .before .before .before in
+      let r = c .before .before .before .before .row-at .ensures in
+      (omega (arith, s .pre .0), (s .pre .1, rw (r .first, r .last) at (c .find-under .ensures)))
 
   carried-field-returns : carried-field-lts.Need-returns (carried-field-claims t) (carried-field-at t) carried-field.Post
-  carried-field-returns c = field-carried (field-sought (c .before .before)) (c .before .if1 .taken) (c .carried .ensures)
-
-  carried-field-returns-2 : carried-field-lts.Need-returns-2 (carried-field-claims t) (carried-field-at t) carried-field.Post
-  carried-field-returns-2 c = field-missing (field-sought (c .before .before)) (c .before .if1 .left) (c .if2 .taken)
-
-  carried-field-add-is-json : carried-field-lts.Need-add-is-json (carried-field-claims t) (carried-field-at t) carried-field.Post
-  carried-field-add-is-json c = field-fits (c .before .before)
-
-  carried-field-is-json-requires : carried-field-lts.Need-is-json-requires (carried-field-claims t) (carried-field-at t) carried-field.Post
-  carried-field-is-json-requires c κs = field-entry (c .before .before) .pre .1 .old
-
-  carried-field-returns-3 : carried-field-lts.Need-returns-3 (carried-field-claims t) (carried-field-at t) carried-field.Post
-  carried-field-returns-3 c = field-json (field-sought (c .before .before .before)) (c .before .before .if1 .left) (c .before .if2 .left) (c .is-json .ensures)
+  carried-field-returns c = c .carried-found .ensures
 
 -- ---- carried_fields
 
 abbrev carried-fields-claims : ℕ → carried-fields-lts.Claims
-carried-fields-claims t = (row-at-reads.Asked, row-at-reads.Learnt, carried-field-below t, carried-field.Post)
+carried-fields-claims t = (
+  row-at-reads.Asked,
+  row-at-reads.Learnt,
+  wide-under-reads.Asked,
+  wide-under-reads.Learnt,
+  carried-wide-below t,
+  carried-wide.Post,
+  carried-field-below t,
+  carried-field.Post,
+)
 
 abbrev carried-fields-Inv-loop : carried-fields-lts.InvT-loop
 carried-fields-Inv-loop new old rows1 rows2 a fields required left₀ row₀ left row = InFields new old rows1 rows2 a fields required row left
@@ -287,28 +293,36 @@ abbrev carried-fields-μ-loop : carried-fields-lts.MeasureT-loop
 carried-fields-μ-loop new old rows1 rows2 a fields required left₀ row₀ left row = left
 
 module _ (t : ℕ) where
-  -- fields that are there; the entry from there
+  -- fields that are there; the entry from there, and from a turn
   abbrev fields-entry : carried-fields-lts.Else1 (carried-fields-claims t) (carried-fields-at t) carried-fields.Post carried-fields-Inv-loop carried-fields-μ-loop
       → carried-fields-lts.Start (carried-fields-claims t) (carried-fields-at t) carried-fields.Post carried-fields-Inv-loop carried-fields-μ-loop
   fields-entry c = c .before .before .before .before .before
 
+  abbrev turn-start : carried-fields-lts.In-loop (carried-fields-claims t) (carried-fields-at t) carried-fields.Post carried-fields-Inv-loop carried-fields-μ-loop
+      → carried-fields-lts.Else1 (carried-fields-claims t) (carried-fields-at t) carried-fields.Post carried-fields-Inv-loop carried-fields-μ-loop
+  turn-start c = c .before .before .before .before .before
+
+  fields-row : (c : carried-fields-lts.Else1 (carried-fields-claims t) (carried-fields-at t) carried-fields.Post carried-fields-Inv-loop carried-fields-μ-loop)
+      → 0 < fields-entry c .args .fields
+  fields-row c = omega (arith, c .if1 .left)
+
   fields-object : (c : carried-fields-lts.Else1 (carried-fields-claims t) (carried-fields-at t) carried-fields.Post carried-fields-Inv-loop carried-fields-μ-loop) →
       let a = fields-entry c .args in
       ObjectRow (a .old .now) (a .rows2 .now) (a .fields)
-  fields-object c = part-object (fields-entry c .pre .1 .old .part) (omega arith)
+  fields-object c = part-object (fields-entry c .pre .1 .old .part) (fields-row c)
 
   -- one of them
   fields-one : (c : carried-fields-lts.In-loop (carried-fields-claims t) (carried-fields-at t) carried-fields.Post carried-fields-Inv-loop carried-fields-μ-loop) →
-      let a = fields-entry (c .before .before .before) .args in
+      let a = fields-entry (turn-start c) .args in
       FieldPairing (a .new .now) (a .old .now) (a .rows1 .now) (a .rows2 .now) (a .a) (c .before .loop .row)
   fields-one c = field-pair (c .before .loop .inv) (c .loop-test .taken)
 
   fields-less : (c : carried-fields-lts.In-loop (carried-fields-claims t) (carried-fields-at t) carried-fields.Post carried-fields-Inv-loop carried-fields-μ-loop) →
-      2 * word (fields-entry (c .before .before .before) .args .rows2 .now) (c .before .loop .row + 1) 4 + 2 < t
+      3 * word (fields-entry (turn-start c) .args .rows2 .now) (c .before .loop .row + 1) 4 + 3 < t
   fields-less c =
-      let s = fields-entry (c .before .before .before) in
-      let l : 0 < s .args .fields = omega arith in
-      omega (arith, field-less (c .before .loop .inv) (c .loop-test .taken), part-rows (s .args .rows2 .now) (s .args .fields) l, s .pre .0)
+      let s = fields-entry (turn-start c) in
+      let rows = part-rows (s .args .rows2 .now) (s .args .fields) (fields-row (turn-start c)) in
+      omega (arith, field-less (c .before .loop .inv) (c .loop-test .taken), rows, s .pre .0)
 
   carried-fields-returns : carried-fields-lts.Need-returns (carried-fields-claims t) (carried-fields-at t) carried-fields.Post carried-fields-Inv-loop carried-fields-μ-loop
   carried-fields-returns c = fields-none (c .if1 .taken)
@@ -316,22 +330,34 @@ module _ (t : ℕ) where
   carried-fields-row-at-requires : carried-fields-lts.Need-row-at-requires (carried-fields-claims t) (carried-fields-at t) carried-fields.Post carried-fields-Inv-loop carried-fields-μ-loop
   carried-fields-row-at-requires c κs = in-table (as-row (fields-object c))
 
+  carried-fields-wide-under-requires : carried-fields-lts.Need-wide-under-requires (carried-fields-claims t) (carried-fields-at t) carried-fields.Post carried-fields-Inv-loop carried-fields-μ-loop
+  carried-fields-wide-under-requires c κs = fields-entry (c .before) .pre .1 .new
+
+  carried-fields-carried-wide-requires : carried-fields-lts.Need-carried-wide-requires (carried-fields-claims t) (carried-fields-at t) carried-fields.Post carried-fields-Inv-loop carried-fields-μ-loop
+  carried-fields-carried-wide-requires c κs =
+      let e = c .before .before .before in
+      let s = fields-entry e in
+      (omega (arith, s .pre .0), (s .pre .1, (fields-row e, rw (c .before .before .row-at .ensures .children) at (c .before .wide-under .ensures (c .if2 .taken)))))
+
+  carried-fields-returns-2 : carried-fields-lts.Need-returns-2 (carried-fields-claims t) (carried-fields-at t) carried-fields.Post carried-fields-Inv-loop carried-fields-μ-loop
+  carried-fields-returns-2 c = c .carried-wide .ensures
+
   carried-fields-add-row : carried-fields-lts.Need-add-row (carried-fields-claims t) (carried-fields-at t) carried-fields.Post carried-fields-Inv-loop carried-fields-μ-loop
-  carried-fields-add-row c = omega (arith, in-table (as-row (fields-object (c .before))) .here, fields-entry (c .before) .good)
+  carried-fields-add-row c = let e = c .before .before .before in omega (arith, in-table (as-row (fields-object e)) .here, fields-entry e .good)
 
   carried-fields-loop-holds : carried-fields-lts.Need-loop-holds (carried-fields-claims t) (carried-fields-at t) carried-fields.Post carried-fields-Inv-loop carried-fields-μ-loop
-  carried-fields-loop-holds c = fields-start (fields-entry (c .before) .pre .1) (omega arith) (c .row-at .ensures .children)
+  carried-fields-loop-holds c = let e = c .before .before .before in fields-start (fields-entry e .pre .1) (fields-row e) (c .before .before .row-at .ensures .children)
 
   carried-fields-carried-field-requires : carried-fields-lts.Need-carried-field-requires (carried-fields-claims t) (carried-fields-at t) carried-fields.Post carried-fields-Inv-loop carried-fields-μ-loop
   carried-fields-carried-field-requires c κs = (fields-less c, fields-one c)
 
-  carried-fields-returns-2 : carried-fields-lts.Need-returns-2 (carried-fields-claims t) (carried-fields-at t) carried-fields.Post carried-fields-Inv-loop carried-fields-μ-loop
-  carried-fields-returns-2 c =
+  carried-fields-returns-3 : carried-fields-lts.Need-returns-3 (carried-fields-claims t) (carried-fields-at t) carried-fields.Post carried-fields-Inv-loop carried-fields-μ-loop
+  carried-fields-returns-3 c =
       let p = c .before .before in
-      field-fails (p .before .loop .inv) (p .loop-test .taken) (c .before .carried-field .ensures) (not-true _ (c .if2 .taken))
+      field-fails (p .before .loop .inv) (p .loop-test .taken) (c .before .carried-field .ensures) (not-true _ (c .if3 .taken))
 
   carried-fields-add-row-at : carried-fields-lts.Need-add-row-at (carried-fields-claims t) (carried-fields-at t) carried-fields.Post carried-fields-Inv-loop carried-fields-μ-loop
-  carried-fields-add-row-at c = omega (arith, in-table (fields-one (c .before .before) .old .row) .here, fields-entry (c .before .before .before .before .before) .good)
+  carried-fields-add-row-at c = let p = c .before .before in omega (arith, in-table (fields-one p .old .row) .here, fields-entry (turn-start p) .good)
 
   carried-fields-row-at-requires-2 : carried-fields-lts.Need-row-at-requires-2 (carried-fields-claims t) (carried-fields-at t) carried-fields.Post carried-fields-Inv-loop carried-fields-μ-loop
   carried-fields-row-at-requires-2 c κs = in-table (fields-one (c .before .before) .old .row)
@@ -345,10 +371,42 @@ module _ (t : ℕ) where
   carried-fields-loop-again : carried-fields-lts.Need-loop-again (carried-fields-claims t) (carried-fields-at t) carried-fields.Post carried-fields-Inv-loop carried-fields-μ-loop
   carried-fields-loop-again c =
       let p = c .before .before .before in
-      field-next (p .before .loop .inv) (p .loop-test .taken) (c .before .before .carried-field .ensures) (not-false _ (c .before .if2 .left)) (c .row-at2 .ensures)
+      field-next (p .before .loop .inv) (p .loop-test .taken) (c .before .before .carried-field .ensures) (not-false _ (c .before .if3 .left)) (c .row-at2 .ensures)
 
-  carried-fields-returns-3 : carried-fields-lts.Need-returns-3 (carried-fields-claims t) (carried-fields-at t) carried-fields.Post carried-fields-Inv-loop carried-fields-μ-loop
-  carried-fields-returns-3 c = fields-end (c .before .loop .inv) (c .loop-test .left)
+  carried-fields-returns-4 : carried-fields-lts.Need-returns-4 (carried-fields-claims t) (carried-fields-at t) carried-fields.Post carried-fields-Inv-loop carried-fields-μ-loop
+  carried-fields-returns-4 c = fields-end (c .before .loop .inv) (c .loop-test .left)
+
+-- ---- carried_found
+
+abbrev carried-found-claims : ℕ → carried-found-lts.Claims
+carried-found-claims t = (
+  carried-below t,
+  carried.Post,
+  is-json-reads.Asked,
+  is-json-reads.Learnt,
+)
+
+module _ (t : ℕ) where
+  carried-found-add-carried : carried-found-lts.Need-add-carried (carried-found-claims t) (carried-found-at t) carried-found.Post
+  carried-found-add-carried c = let s = c .before .before .before .before .before in omega (arith, in-table (s .pre .1 .0 .old .row) .here, s .good)
+
+  carried-found-carried-requires : carried-found-lts.Need-carried-requires (carried-found-claims t) (carried-found-at t) carried-found.Post
+  carried-found-carried-requires c κs = let s = c .before .before .before .before .before in (omega (arith, s .pre .0), found-pair (s .pre .1 .1) (c .if1 .taken) (s .pre .1 .0))
+
+  carried-found-returns : carried-found-lts.Need-returns (carried-found-claims t) (carried-found-at t) carried-found.Post
+  carried-found-returns c = field-carried (c .before .before .before .before .before .before .pre .1 .1) (c .before .if1 .taken) (c .carried .ensures)
+
+  carried-found-returns-2 : carried-found-lts.Need-returns-2 (carried-found-claims t) (carried-found-at t) carried-found.Post
+  carried-found-returns-2 c = field-missing (c .before .before .before .before .before .before .pre .1 .1) (c .before .if1 .left) (c .if2 .taken)
+
+  carried-found-add-is-json : carried-found-lts.Need-add-is-json (carried-found-claims t) (carried-found-at t) carried-found.Post
+  carried-found-add-is-json c = let s = c .before .before .before .before .before .before in omega (arith, in-table (s .pre .1 .0 .old .row) .here, s .good)
+
+  carried-found-is-json-requires : carried-found-lts.Need-is-json-requires (carried-found-claims t) (carried-found-at t) carried-found.Post
+  carried-found-is-json-requires c κs = c .before .before .before .before .before .before .pre .1 .0 .old
+
+  carried-found-returns-3 : carried-found-lts.Need-returns-3 (carried-found-claims t) (carried-found-at t) carried-found.Post
+  carried-found-returns-3 c = field-json (c .before .before .before .before .before .before .before .pre .1 .1) (c .before .before .if1 .left) (c .before .if2 .left) (c .is-json .ensures)
 
 -- ---- carried_to_array
 
@@ -369,7 +427,7 @@ module _ (t : ℕ) where
 
   array-falls : (c : carried-to-array-lts.After-generic-at (carried-to-array-claims t) (carried-to-array-at t) carried-to-array.Post) →
       let a = array-entry c .args in
-      2 * word (a .rows2 .now) (a .b + 2) 4 + 1 < t
+      3 * word (a .rows2 .now) (a .b + 2) 4 + 1 < t
   array-falls c = omega (arith, array-less (c .generic-at .ensures) (array-entry c .pre .1), array-entry c .pre .0)
 
   carried-to-array-generic-at-requires : carried-to-array-lts.Need-generic-at-requires (carried-to-array-claims t) (carried-to-array-at t) carried-to-array.Post
@@ -439,7 +497,7 @@ module _ (t : ℕ) where
 
   map-falls : (c : carried-to-map-lts.After-generic-at (carried-to-map-claims t) (carried-to-map-at t) carried-to-map.Post) →
       let a = map-entry c .args in
-      2 * word (a .rows2 .now) (a .b + 2) 4 + 1 < t
+      3 * word (a .rows2 .now) (a .b + 2) 4 + 1 < t
   map-falls c = omega (arith, map-less (c .generic-at .ensures) (map-entry c .pre .1), map-entry c .pre .0)
 
   -- the old definition inside
@@ -580,16 +638,115 @@ module _ (t : ℕ) where
       let e = f .before .before in
       object-ends (object-entry e .pre .1) (object-objects e) (object-required f) (i .before .carried-fields .ensures) (not-false _ (i .if2 .left)) (object-optional (c .before)) (c .carried-fields2 .ensures)
 
-pub +carried+carried-field+carried-fields+carried-to-array+carried-to-map+carried-to-object-spec :
+-- ---- carried_wide
+
+abbrev carried-wide-claims : ℕ → carried-wide-lts.Claims
+carried-wide-claims t = (
+  match-under-reads.Asked,
+  match-under-reads.Learnt,
+  row-at-reads.Asked,
+  row-at-reads.Learnt,
+  carried-found-below t,
+  carried-found.Post,
+)
+
+abbrev carried-wide-Inv-loop : carried-wide-lts.InvT-loop
+carried-wide-Inv-loop new old rows1 rows2 a fields required values count i₀ row₀ i row = InWide new old rows1 rows2 a fields required values count i row
+
+abbrev carried-wide-μ-loop : carried-wide-lts.MeasureT-loop
+carried-wide-μ-loop new old rows1 rows2 a fields required values count i₀ row₀ i row = count - i
+
+module _ (t : ℕ) where
+  -- the old fields; the entry, from a turn
+  wide-object : (c : carried-wide-lts.Start (carried-wide-claims t) (carried-wide-at t) carried-wide.Post carried-wide-Inv-loop carried-wide-μ-loop) →
+      ObjectRow (c .args .old .now) (c .args .rows2 .now) (c .args .fields)
+  wide-object c = part-object (c .pre .1 .0 .old .part) (c .pre .1 .1 .0)
+
+  abbrev wide-entry : carried-wide-lts.In-loop (carried-wide-claims t) (carried-wide-at t) carried-wide.Post carried-wide-Inv-loop carried-wide-μ-loop
+      → carried-wide-lts.Start (carried-wide-claims t) (carried-wide-at t) carried-wide.Post carried-wide-Inv-loop carried-wide-μ-loop
+  wide-entry c = c .before .before .before .before .before .before .before .before .before .before
+
+  -- one of them
+  wide-one : (c : carried-wide-lts.In-loop (carried-wide-claims t) (carried-wide-at t) carried-wide.Post carried-wide-Inv-loop carried-wide-μ-loop) →
+      let a = wide-entry c .args in
+      FieldPairing (a .new .now) (a .old .now) (a .rows1 .now) (a .rows2 .now) (a .a) (c .before .loop .row)
+  wide-one c = field-pair (c .before .loop .inv .ahead) (wide-some (c .before .loop .inv) (c .loop-test .taken))
+
+  wide-less : (c : carried-wide-lts.In-loop (carried-wide-claims t) (carried-wide-at t) carried-wide.Post carried-wide-Inv-loop carried-wide-μ-loop) →
+      3 * word (wide-entry c .args .rows2 .now) (c .before .loop .row + 1) 4 + 2 < t
+  wide-less c =
+      let s = wide-entry c in
+      let rows = part-rows (s .args .rows2 .now) (s .args .fields) (s .pre .1 .1 .0) in
+      omega (arith, field-less (c .before .loop .inv .ahead) (wide-some (c .before .loop .inv) (c .loop-test .taken)), rows, s .pre .0)
+
+  carried-wide-match-under-requires : carried-wide-lts.Need-match-under-requires (carried-wide-claims t) (carried-wide-at t) carried-wide.Post carried-wide-Inv-loop carried-wide-μ-loop
+  carried-wide-match-under-requires c κs =
+      let s = c .before .before .before .before .before in
+      let many = s .pre .1 .1 .1 in
+      ((s .pre .1 .0 .new, many .is), (wide-object s, (many .few, refl)))
+
+  carried-wide-row-at-requires : carried-wide-lts.Need-row-at-requires (carried-wide-claims t) (carried-wide-at t) carried-wide.Post carried-wide-Inv-loop carried-wide-μ-loop
+  carried-wide-row-at-requires c κs = in-table (as-row (wide-object (c .before .before .before .before .before .before)))
+
+  carried-wide-cast-count : carried-wide-lts.Need-cast-count (carried-wide-claims t) (carried-wide-at t) carried-wide.Post carried-wide-Inv-loop carried-wide-μ-loop
+  carried-wide-cast-count c = search needs
+
+  carried-wide-add-row : carried-wide-lts.Need-add-row (carried-wide-claims t) (carried-wide-at t) carried-wide.Post carried-wide-Inv-loop carried-wide-μ-loop
+  carried-wide-add-row c = let s = c .before .before .before .before .before .before .before .before in omega (arith, in-table (as-row (wide-object s)) .here, s .good)
+
+  carried-wide-loop-holds : carried-wide-lts.Need-loop-holds (carried-wide-claims t) (carried-wide-at t) carried-wide.Post carried-wide-Inv-loop carried-wide-μ-loop
+  carried-wide-loop-holds c =
+      let s = c .before .before .before .before .before .before .before .before in
+      let e = c .before .row-at .ensures .children in
+      wide-start (s .pre .1 .0) (s .pre .1 .1 .0) e (omega (arith, e, s .pre .1 .1 .1 .few)) (c .before .before .match-under .ensures)
+
+  carried-wide-mul-found : carried-wide-lts.Need-mul-found (carried-wide-claims t) (carried-wide-at t) carried-wide.Post carried-wide-Inv-loop carried-wide-μ-loop
+  carried-wide-mul-found c = omega (arith, c .before .loop .inv .few, c .loop-test .taken)
+
+  carried-wide-array-read-found : carried-wide-lts.Need-array-read-found (carried-wide-claims t) (carried-wide-at t) carried-wide.Post carried-wide-Inv-loop carried-wide-μ-loop
+  carried-wide-array-read-found c = omega (arith, c .before .loop .inv .few, c .loop-test .taken)
+
+  carried-wide-carried-found-requires : carried-wide-lts.Need-carried-found-requires (carried-wide-claims t) (carried-wide-at t) carried-wide.Post carried-wide-Inv-loop carried-wide-μ-loop
+  carried-wide-carried-found-requires c κs = (wide-less c, (wide-one c, wide-found (c .before .loop .inv) (c .loop-test .taken)))
+
+  carried-wide-returns : carried-wide-lts.Need-returns (carried-wide-claims t) (carried-wide-at t) carried-wide.Post carried-wide-Inv-loop carried-wide-μ-loop
+  carried-wide-returns c =
+      let p = c .before .before in
+      let a = p .before .loop .inv in
+      field-fails (a .ahead) (wide-some a (p .loop-test .taken)) (c .before .carried-found .ensures) (not-true _ (c .if1 .taken))
+
+  carried-wide-add-row-at : carried-wide-lts.Need-add-row-at (carried-wide-claims t) (carried-wide-at t) carried-wide.Post carried-wide-Inv-loop carried-wide-μ-loop
+  carried-wide-add-row-at c = let p = c .before .before in omega (arith, in-table (wide-one p .old .row) .here, wide-entry p .good)
+
+  carried-wide-row-at-requires-2 : carried-wide-lts.Need-row-at-requires-2 (carried-wide-claims t) (carried-wide-at t) carried-wide.Post carried-wide-Inv-loop carried-wide-μ-loop
+  carried-wide-row-at-requires-2 c κs = in-table (wide-one (c .before .before) .old .row)
+
+  carried-wide-add-i : carried-wide-lts.Need-add-i (carried-wide-claims t) (carried-wide-at t) carried-wide.Post carried-wide-Inv-loop carried-wide-μ-loop
+  carried-wide-add-i c = let p = c .before .before .before in omega (arith, p .before .loop .inv .few, p .loop-test .taken)
+
+  carried-wide-loop-less : carried-wide-lts.Need-loop-less (carried-wide-claims t) (carried-wide-at t) carried-wide.Post carried-wide-Inv-loop carried-wide-μ-loop
+  carried-wide-loop-less c = omega arith
+
+  carried-wide-loop-again : carried-wide-lts.Need-loop-again (carried-wide-claims t) (carried-wide-at t) carried-wide.Post carried-wide-Inv-loop carried-wide-μ-loop
+  carried-wide-loop-again c =
+      let p = c .before .before .before in
+      wide-next (p .before .loop .inv) (p .loop-test .taken) (c .before .before .carried-found .ensures) (not-false _ (c .before .if1 .left)) (c .row-at2 .ensures)
+
+  carried-wide-returns-2 : carried-wide-lts.Need-returns-2 (carried-wide-claims t) (carried-wide-at t) carried-wide.Post carried-wide-Inv-loop carried-wide-μ-loop
+  carried-wide-returns-2 c = wide-end (c .before .loop .inv) (c .loop-test .left)
+
+pub +carried+carried-field+carried-fields+carried-found+carried-to-array+carried-to-map+carried-to-object+carried-wide-spec :
     {M : Type 1} → statement M
-+carried+carried-field+carried-fields+carried-to-array+carried-to-map+carried-to-object-spec =
++carried+carried-field+carried-fields+carried-found+carried-to-array+carried-to-map+carried-to-object+carried-wide-spec =
     close
     μ-carried
     μ-carried-field
     μ-carried-fields
+    μ-carried-found
     μ-carried-to-array
     μ-carried-to-map
     μ-carried-to-object
+    μ-carried-wide
     (λ t. carried-lts.spec (carried-claims t) (carried-at t)
     carried.Post
     (carried-generic-at-requires t)
@@ -618,29 +775,36 @@ pub +carried+carried-field+carried-fields+carried-to-array+carried-to-map+carrie
     (carried-field-part-find-under-start t)
     (carried-field-part-find-under-end t)
     (carried-field-find-under-requires t)
-    (carried-field-add-carried t)
-    (carried-field-carried-requires t)
-    (carried-field-returns t)
-    (carried-field-returns-2 t)
-    (carried-field-add-is-json t)
-    (carried-field-is-json-requires t)
-    (carried-field-returns-3 t))
+    (carried-field-carried-found-requires t)
+    (carried-field-returns t))
     (λ t. carried-fields-lts.spec (carried-fields-claims t) (carried-fields-at t)
     carried-fields.Post
     carried-fields-Inv-loop
     carried-fields-μ-loop
     (carried-fields-returns t)
     (carried-fields-row-at-requires t)
+    (carried-fields-wide-under-requires t)
+    (carried-fields-carried-wide-requires t)
+    (carried-fields-returns-2 t)
     (carried-fields-add-row t)
     (carried-fields-loop-holds t)
     (carried-fields-carried-field-requires t)
-    (carried-fields-returns-2 t)
+    (carried-fields-returns-3 t)
     (carried-fields-add-row-at t)
     (carried-fields-row-at-requires-2 t)
     (carried-fields-sub-left t)
     (carried-fields-loop-less t)
     (carried-fields-loop-again t)
-    (carried-fields-returns-3 t))
+    (carried-fields-returns-4 t))
+    (λ t. carried-found-lts.spec (carried-found-claims t) (carried-found-at t)
+    carried-found.Post
+    (carried-found-add-carried t)
+    (carried-found-carried-requires t)
+    (carried-found-returns t)
+    (carried-found-returns-2 t)
+    (carried-found-add-is-json t)
+    (carried-found-is-json-requires t)
+    (carried-found-returns-3 t))
     (λ t. carried-to-array-lts.spec (carried-to-array-claims t) (carried-to-array-at t)
     carried-to-array.Post
     (carried-to-array-generic-at-requires t)
@@ -671,7 +835,7 @@ pub +carried+carried-field+carried-fields+carried-to-array+carried-to-map+carrie
     (carried-to-map-returns-2 t)
     (carried-to-map-returns-3 t)
     (carried-to-map-returns-4 t))
-    λ t. carried-to-object-lts.spec (carried-to-object-claims t) (carried-to-object-at t)
+    (λ t. carried-to-object-lts.spec (carried-to-object-claims t) (carried-to-object-at t)
     carried-to-object.Post
     (carried-to-object-of-objects-requires t)
     (carried-to-object-returns t)
@@ -684,4 +848,23 @@ pub +carried+carried-field+carried-fields+carried-to-array+carried-to-map+carrie
     (carried-to-object-slice-aggregate-find-2 t)
     (carried-to-object-find-requires-2 t)
     (carried-to-object-carried-fields-requires-2 t)
-    (carried-to-object-returns-3 t)
+    (carried-to-object-returns-3 t))
+    λ t. carried-wide-lts.spec (carried-wide-claims t) (carried-wide-at t)
+    carried-wide.Post
+    carried-wide-Inv-loop
+    carried-wide-μ-loop
+    (carried-wide-match-under-requires t)
+    (carried-wide-row-at-requires t)
+    (carried-wide-cast-count t)
+    (carried-wide-add-row t)
+    (carried-wide-loop-holds t)
+    (carried-wide-mul-found t)
+    (carried-wide-array-read-found t)
+    (carried-wide-carried-found-requires t)
+    (carried-wide-returns t)
+    (carried-wide-add-row-at t)
+    (carried-wide-row-at-requires-2 t)
+    (carried-wide-add-i t)
+    (carried-wide-loop-less t)
+    (carried-wide-loop-again t)
+    (carried-wide-returns-2 t)
