@@ -260,7 +260,7 @@ fn judge_wide(
         return Mismatch::none();
     }
     let names = row_at(rows2, fields).children;
-    if !wide(names) {
+    if !wide(row_at(rows1, at).children, names) {
         return judge_fields(document, schema, rows1, rows2, at, fields, required);
     }
     let mut values = [0usize; 2048];

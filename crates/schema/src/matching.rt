@@ -13,10 +13,13 @@ ghost use Rattle.reader.specs.Holding.{word as wordOf};
 ghost use Rattle.schema.specs.Walking.{ObjectRow};
 ghost use Rattle.schema.specs.Matching.{Buckets, HasIndex, Indexes, filled, Fills, FillsAll, Matches};
 
-// Whether so many names are looked up by an index: they are worth it, and there is room.
-pub fn wide(names: u32) -> bool
+// Whether the names of an object are looked up by an index: both sides have many, and there is room.
+pub fn wide(members: u32, names: u32) -> bool
     ensures { λ r. ⌜ (r ≡ true → names ≤ 2048) ⌝ }
 {
+    if members < 32 {
+        return false;
+    }
     if names < 32 {
         return false;
     }

@@ -2,11 +2,11 @@
 -- `judge_fields`, two in `judge_field` and `judge_wide`; fields that are absent, at row 0, count none. The loops' invariants are `InArray`, `InMap`, `InFields` and `InWide`;
 -- `Judges` has a law for each way out. Below each member's name stands what is known at its places.
 use Prim.Native.Nat.{ℕ, _+_, _-_, _*_, _≤_, _<_}
-use mathlib.Core.Path.{_≡_, refl, sym, _∙_}
+use mathlib.Core.Path.{sym, _∙_}
 use native.Mathlib.Omega.{arith}
 use borrow.Author.Needs.{needs}
 use borrow.Author.Tests.{not-false}
-use lib.ListN.{length, getD}
+use lib.ListN.{length, getD, length-replicate}
 use mir.Syntax.{w64}
 use mir.Val.{Fits}
 use Rattle.model.specs.Text.{text}
@@ -733,20 +733,20 @@ module _ (t : ℕ) where
 
   -- there is room for their names
   wide-few : (c : judge-wide-lts.Else2 (judge-wide-claims t) (judge-wide-at t) judge-wide.Post judge-wide-Inv-loop judge-wide-μ-loop) →
-      let a = wide-start-of (c .before .before .before) .args in
+      let a = wide-start-of (c .before .before .before .before) .args in
       word (a .rows2 .now) (a .fields) 3 ≤ 2048
-  wide-few c = omega (arith, c .before .wide .ensures (not-false _ (c .if2 .left)), c .before .before .row-at .ensures .children)
+  wide-few c = omega (arith, c .before .wide .ensures (not-false _ (c .if2 .left)), c .before .before .before .row-at .ensures .children)
 
   -- the entry, from a turn
   abbrev wide-entry : judge-wide-lts.In-loop (judge-wide-claims t) (judge-wide-at t) judge-wide.Post judge-wide-Inv-loop judge-wide-μ-loop
       → judge-wide-lts.Start (judge-wide-claims t) (judge-wide-at t) judge-wide.Post judge-wide-Inv-loop judge-wide-μ-loop
-  wide-entry c = wide-start-of (c .before .before .before .before .before .before .before)
+  wide-entry c = wide-start-of (c .before .before .before .before .before .before .before .before)
 
   -- the next field
   wide-here : (c : judge-wide-lts.In-loop (judge-wide-claims t) (judge-wide-at t) judge-wide.Post judge-wide-Inv-loop judge-wide-μ-loop) →
       let a = wide-entry c .args in
       FieldSought (a .document .now) (a .schema .now) (a .rows1 .now) (a .rows2 .now) (a .at) (a .fields) (a .required)
-      (c .before .loop .row) (c .before .before .before .before .before .before .row-at .result .children - c .before .loop .i) (getD (c .before .before .match-names .last .1 .1 .1 .1 .1 .1 .0) (c .before .loop .i) 0)
+      (c .before .loop .row) (c .before .before .before .before .before .before .before .row-at .result .children - c .before .loop .i) (getD (c .before .before .match-names .last .1 .1 .1 .1 .1 .1 .0) (c .before .loop .i) 0)
   wide-here c = wide-sought (c .before .loop .inv) (c .loop-test .taken)
 
   wide-value : (c : judge-wide-lts.In-loop (judge-wide-claims t) (judge-wide-at t) judge-wide.Post judge-wide-Inv-loop judge-wide-μ-loop) →
@@ -759,7 +759,7 @@ module _ (t : ℕ) where
       3 * word (a .rows2 .now) (c .before .loop .row + 1) 4 + 2 < t
   wide-less c =
       let s = wide-entry c in
-      let rows = part-rows (s .args .rows2 .now) (s .args .fields) (wide-row (c .before .before .before .before .before .before .before)) in
+      let rows = part-rows (s .args .rows2 .now) (s .args .fields) (wide-row (c .before .before .before .before .before .before .before .before)) in
       omega (arith, field-less (c .before .loop .inv .ahead) (wide-here c .some), rows, s .pre .0)
 
   judge-wide-none-requires : judge-wide-lts.Need-none-requires (judge-wide-claims t) (judge-wide-at t) judge-wide.Post judge-wide-Inv-loop judge-wide-μ-loop
@@ -771,28 +771,31 @@ module _ (t : ℕ) where
   judge-wide-row-at-requires : judge-wide-lts.Need-row-at-requires (judge-wide-claims t) (judge-wide-at t) judge-wide.Post judge-wide-Inv-loop judge-wide-μ-loop
   judge-wide-row-at-requires c κs = in-table (as-row (wide-object c))
 
+  judge-wide-row-at-requires-2 : judge-wide-lts.Need-row-at-requires-2 (judge-wide-claims t) (judge-wide-at t) judge-wide.Post judge-wide-Inv-loop judge-wide-μ-loop
+  judge-wide-row-at-requires-2 c κs = in-table (as-row (wide-start-of (c .before) .pre .1 .document))
+
   judge-wide-wide-requires : judge-wide-lts.Need-wide-requires (judge-wide-claims t) (judge-wide-at t) judge-wide.Post judge-wide-Inv-loop judge-wide-μ-loop
   judge-wide-wide-requires c κs = tt
 
   judge-wide-judge-fields-requires : judge-wide-lts.Need-judge-fields-requires (judge-wide-claims t) (judge-wide-at t) judge-wide.Post judge-wide-Inv-loop judge-wide-μ-loop
-  judge-wide-judge-fields-requires c κs = let s = wide-start-of (c .before .before .before) in (omega (arith, s .pre .0), s .pre .1)
+  judge-wide-judge-fields-requires c κs = let s = wide-start-of (c .before .before .before .before) in (omega (arith, s .pre .0), s .pre .1)
 
   judge-wide-returns-2 : judge-wide-lts.Need-returns-2 (judge-wide-claims t) (judge-wide-at t) judge-wide.Post judge-wide-Inv-loop judge-wide-μ-loop
   judge-wide-returns-2 c = c .judge-fields .ensures
 
   judge-wide-match-names-requires : judge-wide-lts.Need-match-names-requires (judge-wide-claims t) (judge-wide-at t) judge-wide.Post judge-wide-Inv-loop judge-wide-μ-loop
-  judge-wide-match-names-requires c κs = let s = wide-start-of (c .before .before .before .before) in (s .pre .1 .document, (wide-object (c .before .before .before .before), (wide-few (c .before), refl)))
+  judge-wide-match-names-requires c κs = let s = wide-start-of (c .before .before .before .before .before) in (s .pre .1 .document, (wide-object (c .before .before .before .before .before), (wide-few (c .before), length-replicate {A = ℕ} 2048 0)))
 
   judge-wide-cast-count : judge-wide-lts.Need-cast-count (judge-wide-claims t) (judge-wide-at t) judge-wide.Post judge-wide-Inv-loop judge-wide-μ-loop
   judge-wide-cast-count c = search needs
 
   judge-wide-add-row : judge-wide-lts.Need-add-row (judge-wide-claims t) (judge-wide-at t) judge-wide.Post judge-wide-Inv-loop judge-wide-μ-loop
-  judge-wide-add-row c = omega (arith, in-table (as-row (wide-object (c .before .before .before .before .before))) .here, wide-start-of (c .before .before .before .before .before) .good)
+  judge-wide-add-row c = omega (arith, in-table (as-row (wide-object (c .before .before .before .before .before .before))) .here, wide-start-of (c .before .before .before .before .before .before) .good)
 
   judge-wide-loop-holds : judge-wide-lts.Need-loop-holds (judge-wide-claims t) (judge-wide-at t) judge-wide.Post judge-wide-Inv-loop judge-wide-μ-loop
   judge-wide-loop-holds c =
-      let e = c .before .before .before .before .row-at .ensures .children in
-      wide-start (wide-start-of (c .before .before .before .before .before) .pre .1) (wide-row (c .before .before .before .before .before)) e (omega (arith, e, wide-few (c .before .before))) (c .match-names .ensures)
+      let e = c .before .before .before .before .before .row-at .ensures .children in
+      wide-start (wide-start-of (c .before .before .before .before .before .before) .pre .1) (wide-row (c .before .before .before .before .before .before)) e (omega (arith, e, wide-few (c .before .before))) (c .match-names .ensures)
 
   judge-wide-mul-value : judge-wide-lts.Need-mul-value (judge-wide-claims t) (judge-wide-at t) judge-wide.Post judge-wide-Inv-loop judge-wide-μ-loop
   judge-wide-mul-value c = omega (arith, c .before .loop .inv .few, c .loop-test .taken)
@@ -809,8 +812,8 @@ module _ (t : ℕ) where
   judge-wide-add-row-at : judge-wide-lts.Need-add-row-at (judge-wide-claims t) (judge-wide-at t) judge-wide.Post judge-wide-Inv-loop judge-wide-μ-loop
   judge-wide-add-row-at c = omega (arith, in-table (wide-value (c .before .before .before)) .here, wide-entry (c .before .before .before) .good)
 
-  judge-wide-row-at-requires-2 : judge-wide-lts.Need-row-at-requires-2 (judge-wide-claims t) (judge-wide-at t) judge-wide.Post judge-wide-Inv-loop judge-wide-μ-loop
-  judge-wide-row-at-requires-2 c κs = in-table (wide-value (c .before .before .before))
+  judge-wide-row-at-requires-3 : judge-wide-lts.Need-row-at-requires-3 (judge-wide-claims t) (judge-wide-at t) judge-wide.Post judge-wide-Inv-loop judge-wide-μ-loop
+  judge-wide-row-at-requires-3 c κs = in-table (wide-value (c .before .before .before))
 
   judge-wide-add-i : judge-wide-lts.Need-add-i (judge-wide-claims t) (judge-wide-at t) judge-wide.Post judge-wide-Inv-loop judge-wide-μ-loop
   judge-wide-add-i c = omega (arith, c .before .before .before .before .before .loop .inv .few, c .before .before .before .before .loop-test .taken)
@@ -819,7 +822,7 @@ module _ (t : ℕ) where
   judge-wide-loop-less c = omega arith
 
   judge-wide-loop-again : judge-wide-lts.Need-loop-again (judge-wide-claims t) (judge-wide-at t) judge-wide.Post judge-wide-Inv-loop judge-wide-μ-loop
-  judge-wide-loop-again c = wide-next (c .before .before .before .before .before .loop .inv) (c .before .before .before .before .loop-test .taken) (c .before .before .before .judge-field .ensures) (c .before .if3 .left) (c .row-at2 .ensures)
+  judge-wide-loop-again c = wide-next (c .before .before .before .before .before .loop .inv) (c .before .before .before .before .loop-test .taken) (c .before .before .before .judge-field .ensures) (c .before .if3 .left) (c .row-at3 .ensures)
 
   judge-wide-none-requires-2 : judge-wide-lts.Need-none-requires-2 (judge-wide-claims t) (judge-wide-at t) judge-wide.Post judge-wide-Inv-loop judge-wide-μ-loop
   judge-wide-none-requires-2 c κs = tt
@@ -965,6 +968,7 @@ pub +judge+judge-array+judge-field+judge-fields+judge-map+judge-object+judge-wid
     (judge-wide-none-requires t)
     (judge-wide-returns t)
     (judge-wide-row-at-requires t)
+    (judge-wide-row-at-requires-2 t)
     (judge-wide-wide-requires t)
     (judge-wide-judge-fields-requires t)
     (judge-wide-returns-2 t)
@@ -977,7 +981,7 @@ pub +judge+judge-array+judge-field+judge-fields+judge-map+judge-object+judge-wid
     (judge-wide-judge-field-requires t)
     (judge-wide-returns-3 t)
     (judge-wide-add-row-at t)
-    (judge-wide-row-at-requires-2 t)
+    (judge-wide-row-at-requires-3 t)
     (judge-wide-add-i t)
     (judge-wide-loop-less t)
     (judge-wide-loop-again t)

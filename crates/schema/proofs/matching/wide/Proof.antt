@@ -10,5 +10,8 @@ returns c = λ e. absurd (false≢true e)
 returns-2 : tie.Need-returns-2
 returns-2 c = search needs
 
+returns-3 : tie.Need-returns-3
+returns-3 c = search needs
+
 pub wide-spec : {M : Type 1} → statement M
-wide-spec = tie.close (tie.spec returns returns-2)
+wide-spec = tie.close (tie.spec returns returns-2 returns-3)
