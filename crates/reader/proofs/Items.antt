@@ -210,8 +210,5 @@ module _ {L : Type 0} (closing : ℕ) (item : L → ℕ → Parse L) (s : List �
     unfolding listAt
     kept-list empty i h = let j = skip s (i + 1) in both (Kept P) (eqb (byteAt s j) closing) (λ _. h) (λ _. kept-items empty j h)
 
-    pub items-keep : (before : L) (i : ℕ) → P before → (all : L) (e : ℕ) → itemsAt closing item s before i ≡ parsed all e → P all
-    items-keep before i h all e q = rw q at (kept-items before i h)
-
     pub list-keep : (empty : L) (i : ℕ) → P empty → (all : L) (e : ℕ) → listAt closing item s empty i ≡ parsed all e → P all
     list-keep empty i h all e q = rw q at (kept-list empty i h)

@@ -1,14 +1,14 @@
 -- The rows that marks stand for, and how they are stored one behind the other.
 use mathlib.Core.Path.{_≡_, refl, sym, _∙_}
 use mathlib.Core.List.{List, [], _∷_, _++_, append-assoc, append-nil}
-use mathlib.Core.Bool.{Bool, true, false}
+use mathlib.Core.Bool.{true, false}
 use Prim.Native.Nat.{ℕ, _+_, _-_, _*_, _/_, _%_, _≤_, _<_}
 use native.Mathlib.Numerals.{add-one}
 use native.Mathlib.Omega.{arith}
 use lib.ListN.{length, take, getD, length-append}
 use lib.Seq.{sets, take-suc, length-take-le}
-use lib.Dec.{eqb, ltb}
-use borrow.Author.Tests.{ltb-true, lt-ltb, le-ltb, ne-eqb}
+use lib.Dec.{eqb}
+use borrow.Author.Tests.{lt-ltb, le-ltb, ne-eqb}
 use Rattle.chars.proofs.Facts.{both}
 use Rattle.reader.specs.Rows.{rowWords, row}
 use Rattle.reader.specs.Packing.{firstIn, secondIn, thirdIn, fourthIn}
@@ -40,14 +40,10 @@ module _ (x : ℕ) {a b c d : ℕ} (u : (firstIn x ≡ a) × (secondIn x ≡ b) 
   unfolding rowIn
   list-in l z = rw (unnamed-in l, u .0, u .1, u .2, u .3, ne-eqb c 0 z)
 
--- no name
+-- a cleared word is no name
 pub nothing-unnamed : isName 0 ≡ false
 unfolding isName
 nothing-unnamed = refl
-
-pub named-first : (x : ℕ) → isName x ≡ true → secondIn x < firstIn x
-unfolding isName
-named-first x e = ltb-true (secondIn x) (firstIn x) e
 
 module _ (k f e : ℕ) (h : k < 65536) (i : f < e) (j : e ≤ 65536) where
   leaf-numbers : let x = leafMark k f e in (firstIn x ≡ f) × (secondIn x ≡ e - 1) × (thirdIn x ≡ 0) × (fourthIn x ≡ k)

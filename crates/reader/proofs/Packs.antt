@@ -7,9 +7,3 @@ use Rattle.reader.specs.Packing.{packed, firstIn, secondIn, thirdIn, fou
 pub unpacked : (a b c d : ℕ) → a < 65536 → b < 65536 → c < 65536 → d < 65536
     → (firstIn (packed a b c d) ≡ a) × (secondIn (packed a b c d) ≡ b) × (thirdIn (packed a b c d) ≡ c) × (fourthIn (packed a b c d) ≡ d)
 unpacked a b c d h i j k = omega arith
-
-pub third-small : (x : ℕ) → thirdIn x < 65536
-third-small x = omega arith
-
-pub fourth-small : (x : ℕ) → fourthIn x < 65536
-fourth-small x = omega arith

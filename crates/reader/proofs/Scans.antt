@@ -14,18 +14,17 @@ use lib.Seq.{slice, slice-empty, slice-cons, take-take, take-set-le, take-set-lt
 use Rattle.chars.specs.Bytes.{byteAt}
 use Rattle.chars.specs.Parse.{Parse, refused, parsed, then, unexpected}
 use Rattle.chars.specs.Space.{isSpace, skip}
-use Rattle.chars.specs.Tokens.{Kind, Null, Whole, tokenOf}
+use Rattle.chars.specs.Tokens.{Kind, Whole, tokenOf}
 use Rattle.chars.specs.Scalars.{firstOf, scalarAt}
 use Rattle.chars.specs.declared.scalars.First.{First}
 use Rattle.chars.specs.declared.scalars.First.the-variants.{Array, Object, Number}
 use Rattle.chars.specs.Wholes.{WholeStep}
 use Rattle.chars.specs.declared.tokens.Token.the-variants.{Taken}
-use Rattle.chars.proofs.Facts.{run-from, run-within, first-array, first-object, scalar-bounded, hash-small}
+use Rattle.chars.proofs.Facts.{run-from, run-within, first-array, first-object, scalar-bounded}
 use Rattle.chars.proofs.scalars.First.{the-type}
 use Rattle.chars.specs.declared.hashing.Hashed.{Hashed}
 use Rattle.chars.specs.declared.hashing.Hashed.the-variants.{Name, Broken}
-use Rattle.chars.specs.Hashing.{hashOf}
-use Rattle.reader.specs.Tree.{Node, scalar, array, object, Nodes, none, addNode, Members, no-member, member, addMember}
+use Rattle.reader.specs.Tree.{Node, array, object, Nodes, none, addNode, Members, no-member, addMember}
 use Rattle.reader.specs.Rows.{row as rowOf, count, countMembers, size, sizes, sizesMembers, words, wordsAll, wordsMembers}
 use Rattle.reader.specs.Grammar.{nameOf, itemsAt, listAt, elementAt, arrayAt, nameAt, memberAt, objectAt, leafAt, valueAt}
 use Rattle.reader.specs.Marks.{leafMark, listMark, nameMark, isName, rowIn, rowsIn}
@@ -34,9 +33,9 @@ use Rattle.reader.specs.Passes.{scanOf, Room, LeafReady, Ready, LeafAfte
 use Rattle.reader.specs.declared.scanning.Scanned.{Scanned}
 use Rattle.reader.specs.declared.scanning.Scanned.the-variants.{Refused, Value}
 use Rattle.reader.proofs.Items.{Reads, unexpected-both, item-takes, items-refused, items-next, items-close, items-bad, list-empty, list-items, byte-in}
-use Rattle.reader.proofs.Sizes.{size-pos, sizes-add, sizesMembers-add, count-add, countMembers-add, count-few, countMembers-few, wordsAll-add, wordsMembers-add}
+use Rattle.reader.proofs.Sizes.{sizes-add, sizesMembers-add, count-add, countMembers-add, count-few, countMembers-few, wordsAll-add, wordsMembers-add}
 use Rattle.reader.proofs.Values.{value-deep-array, value-array, value-deep-object, value-object, first-leaf, value-leaf, leaf-parsed, name-within, name-takes}
-use Rattle.reader.proofs.Values.{member-parsed, member-bare, member-value, element-reads, member-reads, value-takes, member-takes}
+use Rattle.reader.proofs.Values.{member-parsed, member-bare, member-value, element-reads, member-reads, value-takes}
 use Rattle.reader.proofs.Outcomes.{scan-refused, scan-value}
 use Rattle.reader.proofs.Leaves.{leaf-fits, leaf-noted}
 use Rattle.reader.proofs.Marking.{list-row, list-unnamed, name-numbers, name-named, name-row, rows-append, rows-cons, rows-none}

@@ -109,9 +109,6 @@ module _ (s : List ℕ) (before : Members) (i : ℕ) where
       name-new t = rw (b, q, t)
 
 module _ (v : ℕ → Parse Node) (s : List ℕ) (before : Members) (i : ℕ) where
-  pub member-unnamed : {c p : ℕ} → nameAt s before i ≡ refused c p → memberAt v s before i ≡ refused c p
-  member-unnamed q = rw q
-
   module _ {k : Kind} {e j : ℕ} (q : nameAt s before i ≡ parsed k e) (z : j ≡ skip s e) where
     pub member-bare : (byteAt s j ≡ 0x3A → ⊥) → memberAt v s before i ≡ unexpected s j
     unfolding afterName
@@ -309,12 +306,6 @@ value-within s (suc d) i =
     (λ _. object-of s (valueAt d s) (value-within s d) (value-end d s) i)
 
 module _ (s : List ℕ) (d : ℕ) where
-  pub array-within : (i : ℕ) → ValueWithin s i (arrayAt (valueAt d s) s i)
-  array-within = array-of s (valueAt d s) (value-within s d) (value-end d s)
-
-  pub object-within : (i : ℕ) → ValueWithin s i (objectAt (valueAt d s) s i)
-  object-within = object-of s (valueAt d s) (value-within s d) (value-end d s)
-
   pub element-reads : Reads s sizes (elementAt (valueAt d s))
   element-reads = elements s (valueAt d s) (value-within s d) (value-end d s)
 
@@ -323,10 +314,3 @@ module _ (s : List ℕ) (d : ℕ) where
 
   pub value-takes : {i e : ℕ} {n : Node} → valueAt d s i ≡ parsed n e → (i < e) × (e ≤ length s) × (i + 2 * size n ≤ e + 1)
   value-takes {i} q = rw q at (value-within s d i)
-
-  -- a name of two bytes or more, a colon and a value
-  pub member-takes : (before : Members) (i : ℕ) {all : Members} {e : ℕ} → memberAt (valueAt d s) s before i ≡ parsed all e → i + 4 ≤ e
-  member-takes before i q =
-      let m = member-parsed (valueAt d s) s before i q in
-      let j = m .colon in
-      omega (arith, name-takes s before i (m .name), run-from isSpace s (m .behind), run-from isSpace s (j + 1), value-takes (m .value))

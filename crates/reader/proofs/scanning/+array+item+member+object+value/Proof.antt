@@ -1,6 +1,6 @@
 -- The first pass meets its contracts. The measure is four times the brackets allowed to open, with three more in `array` and `object`, two in `member` and one in `item`.
 -- The loops' invariants are `InArray` and `InObject`; `Scans` has a law for each way out of their bodies. Below each member's name stands what is known at its places.
-use Prim.Native.Nat.{ℕ, _+_, _-_, _*_, _≤_, _<_}
+use Prim.Native.Nat.{ℕ, _+_, _-_, _*_, _<_}
 use mathlib.Core.Path.{_≡_, sym, ap, _∙_}
 use native.Mathlib.Omega.{arith}
 use borrow.Author.Needs.{needs}

@@ -1,5 +1,4 @@
 -- `schema::names::generic_name` meets its contract: a name by its length and bytes, every other as it is spelled.
-use mathlib.Core.Path.{_≡_}
 use mathlib.Core.Logic.{inl, inr}
 use mathlib.Core.List.{[], _∷_}
 use Prim.Native.Nat.{ℕ, _<_}
