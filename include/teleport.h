@@ -70,7 +70,7 @@ enum teleport_kind {
  *   them during the call. The two texts may overlap or be the same.
  *
  * Every call returns, whatever the bytes are. It allocates nothing, keeps no state, may run on several threads and
- * needs less than 512 KiB of stack. A text that is refused leaves its table as it was, and so is every word behind the
+ * needs less than 320 KiB of stack. A text that is refused leaves its table as it was, and so is every word behind the
  * last row. A text has at most as many rows as bytes.
  *
  *     static const uint8_t text[] = "[1,]";

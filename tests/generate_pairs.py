@@ -24,6 +24,8 @@ NAMES = COMMON_NAMES + [
     "\u00e9", "e\u0301", "/", '"', "\\", "\n", "\0", "a\0", "\x7f", "\ufeff",
     "\uffff", "\U0001f600", "\U0010ffff", "a/b", "\\u0061",
 ]
+# Enough of them for objects whose names are looked up by an index.
+WIDE_NAMES = NAMES + ["n%d" % place for place in range(60)]
 IGNORED_NAMES = ["", "Required", "OPTIONAL", "require", "optional ", "a", "Object", "\0required"]
 UNKNOWN_NAMES = [
     "", "Json", "json", "schema", "float", "integer", "INTEGER", "Int", "string", "boolean",
@@ -90,6 +92,15 @@ class PairWriter(generate.Writer):
         for name in names:
             self.chance.choice([required, optional])[name] = self.definition(depth - 1)
         return Definition("Object", None, required, optional)
+
+    def wide_definition(self):
+        """An Object with about as many names in each part as an index takes; one may hold another."""
+        names = self.chance.sample(WIDE_NAMES, self.chance.randint(30, 80))
+        wide = self.object_definition(names, self.chance.choice([1, 1, 2]))
+        if self.chance.random() < 0.3:
+            wide.required[names[0]] = self.object_definition(names[1:], 1)
+            wide.optional.pop(names[0], None)
+        return wide
 
     def any_definition(self):
         return self.definition(self.chance.choice([0, 1, 2, 2, 3, 3, 4]))
@@ -664,6 +675,20 @@ def meeting_pairs(chance):
             yield writer.text_of(damaged), schema
 
 
+def wide_meeting_pairs(chance):
+    """The same with many names, and with faults in the schema."""
+    writer = PairWriter(chance)
+    while True:
+        definition = writer.wide_definition()
+        document = writer.document(definition)
+        schema = writer.text_of(writer.schema(definition))
+        yield writer.text_of(document), schema
+        damaged = writer.damaged(document)
+        yield writer.text_of(damaged), schema
+        yield writer.text_of(writer.damaged(damaged)), schema
+        yield writer.text_of(document), writer.text_of(writer.schema(definition, 0.02))
+
+
 def faulty_pairs(chance):
     """Schemas with faults, and the same as documents under Schema."""
     writer = PairWriter(chance)
@@ -727,6 +752,20 @@ def derived_schema_pairs(chance):
             yield changed, texts[0]
 
 
+def wide_derived_schema_pairs(chance):
+    """The same with many names, and with faults."""
+    writer = PairWriter(chance)
+    while True:
+        first = writer.wide_definition()
+        last = first
+        for _ in range(3):
+            last = writer.changed(last)
+            texts = [writer.text_of(writer.schema(definition)) for definition in (first, last)]
+            yield tuple(texts)
+            yield tuple(texts[::-1])
+        yield texts[0], writer.text_of(writer.schema(last, 0.02))
+
+
 def unrelated_schema_pairs(chance):
     writer = PairWriter(chance)
     while True:
@@ -750,7 +789,7 @@ def check_pairs(seed):
     chance = random.Random(seed)
     return generate.take_turns([
         small_check_pairs(chance), limit_check_pairs(chance), date_pairs(chance),
-        meeting_pairs(chance), meeting_pairs(chance), faulty_pairs(chance),
+        meeting_pairs(chance), meeting_pairs(chance), wide_meeting_pairs(chance), faulty_pairs(chance),
         bad_text_pairs(chance), unrelated_pairs(chance)])
 
 
@@ -759,7 +798,7 @@ def schema_pairs(seed):
     chance = random.Random(seed)
     return generate.take_turns([
         small_schema_pairs(chance), limit_schema_pairs(chance), derived_schema_pairs(chance),
-        derived_schema_pairs(chance), derived_schema_pairs(chance),
+        derived_schema_pairs(chance), derived_schema_pairs(chance), wide_derived_schema_pairs(chance),
         unrelated_schema_pairs(chance), faulty_schema_pairs(chance)])
 
 
