@@ -42,7 +42,7 @@ pub record Filling (s fs es : List ℕ) (n : ℕ) (m : List ℕ) (r : ℕ) (vs v
 other-bucket : (n m : List ℕ) → (bucketOf n ≡ bucketOf m → ⊥) → same n m ≡ false
 other-bucket n m f = by-test (same n m) (λ t. absurd (f (ap bucketOf (same-true n m t)))) (λ t. t)
 
-module _ {s hs ls fs es : List ℕ} {n : ℕ} (x : Indexed s hs ls fs es n) (m : List ℕ) {r : ℕ} {vs vs₂ : List ℕ} where
+module _ {s fs es : List ℕ} {n : ℕ} (m : List ℕ) {r : ℕ} {vs vs₂ : List ℕ} where
   -- the last name of the bucket below i; those from i on are settled
   from-last : (i : ℕ) → i ≤ n → ((j : ℕ) → i ≤ j → j < n → getD vs₂ j 0 ≡ filled (same (nameIn s fs es j) m) r (getD vs j 0))
       → ((j : ℕ) → j < i → getD vs₂ j 0 ≡ getD vs j 0) → Filling s fs es n m r vs vs₂ (lastIn (bucketIn s fs es) (bucketOf m) i)
@@ -67,7 +67,7 @@ pub record Along (s hs ls fs es m : List ℕ) (r : ℕ) (vs vs₂ : List ℕ) (k
 
 module _ {s hs ls fs es : List ℕ} {n : ℕ} (x : Indexed s hs ls fs es n) {m : List ℕ} {r : ℕ} {vs : List ℕ} where
   pub fill-begin : {b : ℕ} → b ≡ bucketOf m → Filling s fs es n m r vs vs (getD hs b 0)
-  fill-begin e = rw (e, x .heads (bucketOf m) (bucket-small m)) (from-last x m n (omega arith) (λ j a l. absurd (omega arith)) (λ j l. refl))
+  fill-begin e = rw (e, x .heads (bucketOf m) (bucket-small m)) (from-last m n (omega arith) (λ j a l. absurd (omega arith)) (λ j l. refl))
 
   module _ {vs₂ : List ℕ} {k : ℕ} (d : Filling s fs es n m r vs vs₂ k) where
     -- the name before k is settled, and leads on
@@ -76,7 +76,7 @@ module _ {s hs ls fs es : List ℕ} {n : ℕ} (x : Indexed s hs ls fs es n) {m :
     fill-next l w {v} e =
         let b = d .below in
         rw (x .links (k - 1) (omega arith), d .chained l)
-        (from-last x m (k - 1) (omega arith)
+        (from-last m (k - 1) (omega arith)
         (λ j a u. ⊎-elim (λ z. rw (← z, getD-set-same vs₂ (k - 1) v 0 w, e, d .ahead (k - 1) (omega arith)))
         (λ y. getD-set-other vs₂ (k - 1) j v 0 (λ z. omega arith) ∙ d .settled j (omega arith) u) (eq-or-lt-of-le a))
         (λ j u. getD-set-other vs₂ (k - 1) j v 0 (λ z. omega arith) ∙ d .ahead j (omega arith)))

@@ -118,7 +118,7 @@ pub index-push : {s hs ls fs es : List ℕ} {n b f e : ℕ} → Indexed s hs ls 
     → length hs ≡ 1024 → length ls ≡ 2048 → length fs ≡ 2048 → length es ≡ 2048 → IsQuoted s f e
     → Indexed s (set hs b (n + 1)) (set ls n (getD hs b 0)) (set fs n f) (set es n e) (n + 1)
 index-push {s} {hs} {ls} {fs} {es} {n} {b} {f} {e} x p small l h k i o q =
-    let y = index-kept x (λ j m. getD-set-other fs n j f 0 (λ z. omega arith)) (λ j m. getD-set-other es n j e 0 (λ z. omega arith)) in
+    let y : Indexed s hs ls (set fs n f) (set es n e) n = index-kept x (λ j m. getD-set-other fs n j f 0 (λ z. omega arith)) (λ j m. getD-set-other es n j e 0 (λ z. omega arith)) in
     let u : getD (set fs n f) n 0 ≡ f = getD-set-same fs n f 0 (omega arith) in
     let v : getD (set es n e) n 0 ≡ e = getD-set-same es n e 0 (omega arith) in
     index-more y (rw (u, v) p) small l h k (rw (u, v) q)

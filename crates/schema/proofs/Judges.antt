@@ -635,25 +635,26 @@ module _ {s₁ s₂ t₁ t₂ : List ℕ} {r₁ r₂ : ℕ} {required : Bool} {v
 -- ---- one field
 
 module _ {s₁ s₂ t₁ t₂ : List ℕ} {r₁ v r₂ : ℕ} where
+  -- the mismatch by what stands under the name
+  abbrev by-value : Bool → FieldJudgeable s₁ s₂ t₁ t₂ r₁ v r₂ → Option Node → Mismatch
+  by-value required j o = judged o (absence required (j .document .first) (word t₂ r₂ 1)) (mismatchAt s₁ (j .definition))
+
   -- a value is found
   abbrev pub field-value : FieldJudgeable s₁ s₂ t₁ t₂ r₁ v r₂ → 0 < v → Judgeable s₁ s₂ t₁ t₂ v (r₂ + 1)
   field-value j l = record { document = found (j .document) (j .finds) l .value; schema = j .schema; definition = j .definition; defines = j .defines }
 
   module _ {required : Bool} {m : Mismatch} where
     pub field-found : 0 < v → Judged s₁ s₂ t₁ t₂ v (r₂ + 1) m → FieldJudged s₁ s₂ t₁ t₂ r₁ v r₂ required m
-    field-found l h = record {
-      tells = λ j. h .tells (field-value j l) ∙ sym (ap (λ (o : Option Node). judged o (absence required (j .document .first) (word t₂ r₂ 1)) (mismatchAt s₁ (j .definition))) (found (j .document) (j .finds) l .is));
-    }
+    field-found l h = record { tells = λ j. h .tells (field-value j l) ∙ sym (ap (by-value required j) (found (j .document) (j .finds) l .is)) }
 
     -- none is found
-    field-absent : v ≤ 0 → ((j : FieldJudgeable s₁ s₂ t₁ t₂ r₁ v r₂) → m ≡ absence required (j .document .first) (word t₂ r₂ 1)) → FieldJudged s₁ s₂ t₁ t₂ r₁ v r₂ required m
-    field-absent l e = record {
-      tells = λ j. e j ∙ sym (ap (λ (o : Option Node). judged o (absence required (j .document .first) (word t₂ r₂ 1)) (mismatchAt s₁ (j .definition))) (not-found (j .document) (j .finds) (omega arith)));
-    }
+    field-absent : v ≤ 0 → ((j : FieldJudgeable s₁ s₂ t₁ t₂ r₁ v r₂) → m ≡ absence required (j .document .first) (word t₂ r₂ 1))
+        → FieldJudged s₁ s₂ t₁ t₂ r₁ v r₂ required m
+    field-absent l e = record { tells = λ j. e j ∙ sym (ap (by-value required j) (not-found (j .document) (j .finds) (omega arith))) }
 
-    pub field-missing : v ≤ 0 → required ≡ true → {x y : Record} → Reads t₁ r₁ x → Reads t₂ r₂ y → m ≡ mismatch 21 (x .first) (y .first) → FieldJudged s₁ s₂ t₁ t₂ r₁ v r₂ required m
-    field-missing l q p w e =
-        field-absent l (λ j. rw (q, ← w .first, ← row (as-row (j .document)) .first, ← p .first) e)
+    pub field-missing : v ≤ 0 → required ≡ true → {x y : Record} → Reads t₁ r₁ x → Reads t₂ r₂ y → m ≡ mismatch 21 (x .first) (y .first)
+        → FieldJudged s₁ s₂ t₁ t₂ r₁ v r₂ required m
+    field-missing l q p w e = field-absent l (λ j. rw (q, ← w .first, ← row (as-row (j .document)) .first, ← p .first) e)
 
     pub field-skipped : v ≤ 0 → required ≡ false → m ≡ nothing → FieldJudged s₁ s₂ t₁ t₂ r₁ v r₂ required m
     field-skipped l q e = field-absent l (λ j. rw q e)

@@ -230,11 +230,15 @@ carried-field-claims t = (
 )
 
 module _ (t : ℕ) where
-  -- the quotes of the name
+  -- the entry, from where the name was read, and its quotes
+  abbrev field-entry : carried-field-lts.After-row-at (carried-field-claims t) (carried-field-at t) carried-field.Post
+      → carried-field-lts.Start (carried-field-claims t) (carried-field-at t) carried-field.Post
+  field-entry c = c .before .before .before .before .before
+
   field-quotes : (c : carried-field-lts.After-row-at (carried-field-claims t) (carried-field-at t) carried-field.Post) →
       let x = c .row-at .result in
-      (x .first + 2 ≤ x .end) × (x .end ≤ length (c .before .before .before .before .before .args .old .now))
-  field-quotes c = quotes-read (c .row-at .ensures) (c .before .before .before .before .before .pre .1 .quoted)
+      (x .first + 2 ≤ x .end) × (x .end ≤ length (field-entry c .args .old .now))
+  field-quotes c = quotes-read (c .row-at .ensures) (field-entry c .pre .1 .quoted)
 
   carried-field-row-at-requires : carried-field-lts.Need-row-at-requires (carried-field-claims t) (carried-field-at t) carried-field.Post
   carried-field-row-at-requires c κs = c .before .before .before .before .pre .1 .name
@@ -243,7 +247,7 @@ module _ (t : ℕ) where
   carried-field-cast-from c = search needs
 
   carried-field-add-from : carried-field-lts.Need-add-from (carried-field-claims t) (carried-field-at t) carried-field.Post
-  carried-field-add-from c = omega (arith, field-quotes (c .before), c .before .before .before .before .before .before .good)
+  carried-field-add-from c = omega (arith, field-quotes (c .before), field-entry (c .before) .good)
 
   carried-field-cast-to : carried-field-lts.Need-cast-to (carried-field-claims t) (carried-field-at t) carried-field.Post
   carried-field-cast-to c = search needs
@@ -261,11 +265,11 @@ module _ (t : ℕ) where
   carried-field-part-find-under-end c = omega (arith, field-quotes (c .before .before))
 
   carried-field-find-under-requires : carried-field-lts.Need-find-under-requires (carried-field-claims t) (carried-field-at t) carried-field.Post
-  carried-field-find-under-requires c κs = c .before .before .before .before .before .before .before .before .pre .1 .new
+  carried-field-find-under-requires c κs = field-entry (c .before .before .before) .pre .1 .new
 
   carried-field-carried-found-requires : carried-field-lts.Need-carried-found-requires (carried-field-claims t) (carried-field-at t) carried-field.Post
   carried-field-carried-found-requires c κs =
-      let s = c .before .before .before .before .before .before .before .before .before in
+      let s = field-entry (c .before .before .before .before) in
       let r = c .before .before .before .before .row-at .ensures in
       (omega (arith, s .pre .0), (s .pre .1, rw (r .first, r .last) at (c .find-under .ensures)))
 
@@ -657,14 +661,18 @@ abbrev carried-wide-μ-loop : carried-wide-lts.MeasureT-loop
 carried-wide-μ-loop new old rows1 rows2 a fields required values count i₀ row₀ i row = count - i
 
 module _ (t : ℕ) where
-  -- the old fields; the entry, from a turn
+  -- the old fields; the entry, from before the loop and from a turn
   wide-object : (c : carried-wide-lts.Start (carried-wide-claims t) (carried-wide-at t) carried-wide.Post carried-wide-Inv-loop carried-wide-μ-loop) →
       ObjectRow (c .args .old .now) (c .args .rows2 .now) (c .args .fields)
   wide-object c = part-object (c .pre .1 .0 .old .part) (c .pre .1 .1 .0)
 
+  abbrev wide-begin : carried-wide-lts.After-struct-known (carried-wide-claims t) (carried-wide-at t) carried-wide.Post carried-wide-Inv-loop carried-wide-μ-loop
+      → carried-wide-lts.Start (carried-wide-claims t) (carried-wide-at t) carried-wide.Post carried-wide-Inv-loop carried-wide-μ-loop
+  wide-begin c = c .before .before .before .before .before .before .before .before
+
   abbrev wide-entry : carried-wide-lts.In-loop (carried-wide-claims t) (carried-wide-at t) carried-wide.Post carried-wide-Inv-loop carried-wide-μ-loop
       → carried-wide-lts.Start (carried-wide-claims t) (carried-wide-at t) carried-wide.Post carried-wide-Inv-loop carried-wide-μ-loop
-  wide-entry c = c .before .before .before .before .before .before .before .before .before .before
+  wide-entry c = wide-begin (c .before .before)
 
   -- one of them
   wide-one : (c : carried-wide-lts.In-loop (carried-wide-claims t) (carried-wide-at t) carried-wide.Post carried-wide-Inv-loop carried-wide-μ-loop) →
@@ -692,11 +700,11 @@ module _ (t : ℕ) where
   carried-wide-cast-count c = search needs
 
   carried-wide-add-row : carried-wide-lts.Need-add-row (carried-wide-claims t) (carried-wide-at t) carried-wide.Post carried-wide-Inv-loop carried-wide-μ-loop
-  carried-wide-add-row c = let s = c .before .before .before .before .before .before .before .before in omega (arith, in-table (as-row (wide-object s)) .here, s .good)
+  carried-wide-add-row c = let s = wide-begin c in omega (arith, in-table (as-row (wide-object s)) .here, s .good)
 
   carried-wide-loop-holds : carried-wide-lts.Need-loop-holds (carried-wide-claims t) (carried-wide-at t) carried-wide.Post carried-wide-Inv-loop carried-wide-μ-loop
   carried-wide-loop-holds c =
-      let s = c .before .before .before .before .before .before .before .before in
+      let s = wide-begin c in
       let e = c .before .row-at .ensures .children in
       wide-start (s .pre .1 .0) (s .pre .1 .1 .0) e (omega (arith, e, s .pre .1 .1 .1 .few)) (c .before .before .match-under .ensures)
 

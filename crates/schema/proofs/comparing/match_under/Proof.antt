@@ -15,18 +15,25 @@ use borrow.Author.Needs.{needs}
 use Rattle.schema.proofs.comparing.match_under.Statement.{statement}
 use Rattle.schema.proofs.comparing.match_under.Tie as tie
 
+-- the entry from the first look-up, and that from the second
+abbrev entry : tie.After-find → tie.Start
+entry c = c .before .before .before .before .before .before
+
+abbrev earlier : tie.After-find2 → tie.After-find
+earlier c = c .before .before .before .before .before
+
 -- the body's row
 fits : (c : tie.Start) → Fits w64 (c .args .row + 2)
 fits c = omega (arith, in-table (as-row (object-body (c .pre .0 .1) (c .pre .0 .0))) .here, c .good)
 
 -- the rows of "required" and of "optional"
 required-row : (c : tie.After-find) →
-    let a = c .before .before .before .before .before .before .args in
+    let a = entry c .args in
     Finds (a .text1 .now) (a .table1 .now) (a .row + 2) (text "required") (c .find .result)
 required-row c = rw (plain .required) at (c .find .ensures)
 
 optional-row : (c : tie.After-find2) →
-    let a = c .before .before .before .before .before .before .before .before .before .before .before .args in
+    let a = entry (earlier c) .args in
     Finds (a .text1 .now) (a .table1 .now) (a .row + 2) (text "optional") (c .find2 .result)
 optional-row c = rw (plain .optional) at (c .find2 .ensures)
 
@@ -35,9 +42,9 @@ room : (c : tie.Start) → length (c .args .found .now) ≡ 2048
 room c = ap length (c .pre .1 .1 .1) ∙ length-replicate {A = ℕ} 2048 0
 
 first-found : (c : tie.After-match-fields) →
-    let a = c .before .before .before .before .before .before .before .before .args in
+    let a = entry (c .before .before) .args in
     MatchesFields (a .text1 .now) (a .table1 .now) (c .before .before .find .result) (a .text2 .now) (a .table2 .now) (a .part) (replicate 2048 0) (c .match-fields .last .1 .1 .1 .1 .1 .1 .0)
-first-found c = rw (c .before .before .before .before .before .before .before .before .pre .1 .1 .1) at (c .match-fields .ensures)
+first-found c = rw (entry (c .before .before) .pre .1 .1 .1) at (c .match-fields .ensures)
 
 add-find : tie.Need-add-find
 add-find c = fits (c .before .before .before .before)
@@ -49,29 +56,29 @@ find-requires : tie.Need-find-requires
 find-requires c κs = let p = c .before .before .before .before .before .pre .0 in object-body (p .1) (p .0)
 
 match-fields-requires : tie.Need-match-fields-requires
-match-fields-requires c κs = let s = c .before .before .before .before .before .before .before in ((required-fields (s .pre .0 .1) (required-row (c .before)) (s .pre .0 .0), s .pre .1 .0), (s .pre .1 .1 .0, room s))
+match-fields-requires c κs = let s = entry (c .before) in ((required-fields (s .pre .0 .1) (required-row (c .before)) (s .pre .0 .0), s .pre .1 .0), (s .pre .1 .1 .0, room s))
 
 returns : tie.Need-returns
-returns c = let s = c .before .before .before .before .before .before .before .before .before in under-required (s .pre .0 .1) (s .pre .1 .1 .0) (required-row (c .before .before .before)) (first-found (c .before)) (c .if1 .taken)
+returns c = let s = entry (c .before .before .before) in under-required (s .pre .0 .1) (s .pre .1 .1 .0) (required-row (c .before .before .before)) (first-found (c .before)) (c .if1 .taken)
 
 add-find-2 : tie.Need-add-find-2
-add-find-2 c = fits (c .before .before .before .before .before .before .before .before .before)
+add-find-2 c = fits (entry (c .before .before .before))
 
 slice-aggregate-find-2 : tie.Need-slice-aggregate-find-2
 slice-aggregate-find-2 c = search needs
 
 find-requires-2 : tie.Need-find-requires-2
-find-requires-2 c κs = let p = c .before .before .before .before .before .before .before .before .before .before .pre .0 in object-body (p .1) (p .0)
+find-requires-2 c κs = let p = entry (c .before .before .before .before) .pre .0 in object-body (p .1) (p .0)
 
 match-fields-requires-2 : tie.Need-match-fields-requires-2
 match-fields-requires-2 c κs =
-    let s = c .before .before .before .before .before .before .before .before .before .before .before .before in
+    let s = entry (earlier (c .before)) in
     ((optional-fields (s .pre .0 .1) (optional-row (c .before)) (s .pre .0 .0), s .pre .1 .0), (s .pre .1 .1 .0, c .before .before .before .before .match-fields .ensures .long ∙ room s))
 
 returns-2 : tie.Need-returns-2
 returns-2 c =
-    let s = c .before .before .before .before .before .before .before .before .before .before .before .before .before in
-    under-any (s .pre .0 .1) (s .pre .1 .1 .0) (required-row (c .before .before .before .before .before .before .before)) (first-found (c .before .before .before .before .before)) (c .before .before .before .before .if1 .left) (optional-row (c .before .before)) (c .match-fields2 .ensures)
+    let s = entry (earlier (c .before .before)) in
+    under-any (s .pre .0 .1) (s .pre .1 .1 .0) (required-row (earlier (c .before .before))) (first-found (c .before .before .before .before .before)) (c .before .before .before .before .if1 .left) (optional-row (c .before .before)) (c .match-fields2 .ensures)
 
 pub match-under-spec : {M : Type 1} → statement M
 match-under-spec =

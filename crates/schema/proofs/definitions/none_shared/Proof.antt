@@ -19,22 +19,29 @@ Inv-loop text table required optional count found names i₀ i = Unmatched text 
 abbrev μ-loop : tie.MeasureT-loop
 μ-loop text table required optional count found names i₀ i = names - i
 
--- both objects are there
+-- the entry, where both objects are there, and the way back to there
+abbrev entry : tie.Else2 Inv-loop μ-loop → tie.Start Inv-loop μ-loop
+entry c = c .before .before .before .before
+
+abbrev there : tie.Else3 Inv-loop μ-loop → tie.Else2 Inv-loop μ-loop
+there c = c .before .before .before .before
+
+-- both objects
 module _ (c : tie.Else2 Inv-loop μ-loop) where
-  required-there : 0 < c .before .before .before .before .args .required
+  required-there : 0 < entry c .args .required
   required-there = omega arith
 
-  optional-there : 0 < c .before .before .before .before .args .optional
+  optional-there : 0 < entry c .args .optional
   optional-there = omega arith
 
-  required-object : let a = c .before .before .before .before .args in ObjectRow (now (a .text)) (now (a .table)) (a .required)
-  required-object = part-object (c .before .before .before .before .pre .0) required-there
+  required-object : let a = entry c .args in ObjectRow (now (a .text)) (now (a .table)) (a .required)
+  required-object = part-object (entry c .pre .0) required-there
 
-  optional-object : let a = c .before .before .before .before .args in ObjectRow (now (a .text)) (now (a .table)) (a .optional)
-  optional-object = part-object (c .before .before .before .before .pre .1) optional-there
+  optional-object : let a = entry c .args in ObjectRow (now (a .text)) (now (a .table)) (a .optional)
+  optional-object = part-object (entry c .pre .1) optional-there
 
 -- there is room for the names
-few : (c : tie.Else3 Inv-loop μ-loop) → let a = c .before .before .before .before .before .before .before .before .args in word (now (a .table)) (a .optional) 3 ≤ 2048
+few : (c : tie.Else3 Inv-loop μ-loop) → let a = entry (there c) .args in word (now (a .table)) (a .optional) 3 ≤ 2048
 few c = omega (arith, c .before .wide .ensures (not-false _ (c .if3 .left)), c .before .before .before .row-at .ensures .children)
 
 returns : tie.Need-returns Inv-loop μ-loop
@@ -56,7 +63,7 @@ returns-3 : tie.Need-returns-3 Inv-loop μ-loop
 returns-3 c = λ e. absurd (false≢true e)
 
 match-names-requires : tie.Need-match-names-requires Inv-loop μ-loop
-match-names-requires c κs = let d = c .before .before .before .before .before in (required-object d, (optional-object d, (few (c .before), length-replicate {A = ℕ} 2048 0)))
+match-names-requires c κs = let d = there (c .before) in (required-object d, (optional-object d, (few (c .before), length-replicate {A = ℕ} 2048 0)))
 
 cast-names : tie.Need-cast-names Inv-loop μ-loop
 cast-names c = search needs
@@ -83,7 +90,7 @@ loop-again : tie.Need-loop-again Inv-loop μ-loop
 loop-again c = unmatched-next (c .before .before .loop .inv) (c .if4 .left)
 
 returns-5 : tie.Need-returns-5 Inv-loop μ-loop
-returns-5 c = λ _. (let d = c .before .before .before .before .before .before .before .before in unmatched-end (c .before .loop .inv) (c .loop-test .left) (required-there d) (optional-there d))
+returns-5 c = λ _. (let d = there (c .before .before .before .before) in unmatched-end (c .before .loop .inv) (c .loop-test .left) (required-there d) (optional-there d))
 
 pub none-shared-spec : {M : Type 1} → statement M
 none-shared-spec =

@@ -49,6 +49,10 @@ module _ (c : tie.In-loop Inv-loop μ-loop) where
       (f + 2 ≤ e) × (e ≤ length (now (a .text2)))
   name-quotes = let b = quoted-bounds (index .quoted (c .before .loop .k - 1) place) in (b .0, b .1)
 
+-- the turn, from its end
+abbrev turn : tie.After-k2 Inv-loop μ-loop → tie.In-loop Inv-loop μ-loop
+turn c = c .before .before .before .before .before .before .before .before
+
 add-from : tie.Need-add-from Inv-loop μ-loop
 add-from c = omega (arith, key-quotes (c .before .before))
 
@@ -109,13 +113,13 @@ part-same-name-end : tie.Need-part-same-name-end Inv-loop μ-loop
 part-same-name-end c = omega (arith, name-quotes (c .before .before))
 
 sub-same-name-2 : tie.Need-sub-same-name-2 Inv-loop μ-loop
-sub-same-name-2 c = omega (arith, key-quotes (c .before .before .before .before .before .before .before .before .before))
+sub-same-name-2 c = omega (arith, key-quotes (entry (c .before .before .before)))
 
 part-same-name-start-2 : tie.Need-part-same-name-start-2 Inv-loop μ-loop
-part-same-name-start-2 c = omega (arith, key-quotes (c .before .before .before .before .before .before .before .before .before))
+part-same-name-start-2 c = omega (arith, key-quotes (entry (c .before .before .before)))
 
 part-same-name-end-2 : tie.Need-part-same-name-end-2 Inv-loop μ-loop
-part-same-name-end-2 c = omega (arith, key-quotes (c .before .before .before .before .before .before .before .before .before))
+part-same-name-end-2 c = omega (arith, key-quotes (entry (c .before .before .before)))
 
 same-name-requires : tie.Need-same-name-requires Inv-loop μ-loop
 same-name-requires c κs = search needs
@@ -142,14 +146,14 @@ element-copy-out-k-2 : tie.Need-element-copy-out-k-2 Inv-loop μ-loop
 element-copy-out-k-2 c = room (c .before .before .before .before .before .before .before)
 
 cast-k-2 : tie.Need-cast-k-2 Inv-loop μ-loop
-cast-k-2 c = let i = c .before .before .before .before .before .before .before .before in omega (arith, room i, fill-less (index i) (chain i) (i .loop-test .taken))
+cast-k-2 c = let i = turn c in omega (arith, room i, fill-less (index i) (chain i) (i .loop-test .taken))
 
 loop-less : tie.Need-loop-less Inv-loop μ-loop
-loop-less c = let i = c .before .before .before .before .before .before .before .before in fill-less (index i) (chain i) (i .loop-test .taken)
+loop-less c = let i = turn c in fill-less (index i) (chain i) (i .loop-test .taken)
 
 loop-again : tie.Need-loop-again Inv-loop μ-loop
 loop-again c =
-    let i = c .before .before .before .before .before .before .before .before in
+    let i = turn c in
     let a = i .before .loop .inv in
     record {
       long = simp length-set (a .long);
