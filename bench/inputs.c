@@ -254,18 +254,37 @@ static void make_64(struct text *t) {
     add(t, "{\"id\":1017,\"from\":\"Slip 2\",\"cars\":120,\"late\":false,\"note\":null }");
 }
 
-/*
- * Names that all have one hash of the library's, which is 257 times the hash before a character, and the character:
- * 98 * 257 + 33 is 97 * 257 + 0x122, so that each pair of a name may be either of two.
- */
-static void make_colliding(struct text *t) {
-    uint32_t number = 0;
-    add_byte(t, '{');
-    for (size_t mark = t->length; fits(t, &mark, 0); number++) {
-        add_byte(t, '"');
-        for (int pair = 0; pair < 11; pair++) add(t, number >> pair & 1 ? "a\xc4\xa2" : "b!");
-        add(t, "\":1,");
+/* The library's hash of five characters: a sum of them times powers of 257, of which a multiple's upper bits count. */
+static uint32_t hash_of_five(const uint8_t *name) {
+    uint32_t sum = 0;
+    for (int i = 0; i < 5; i++) sum = sum * 257 + name[i];
+    return (sum * 2654435769u) >> 16;
+}
+
+/* Names of five bytes that all have the hash 0, found by trying all: none shorter are enough to fill a text. */
+enum { COLLIDING = 7000, COLLIDING_BYTES = 5 };
+
+static uint8_t colliding[COLLIDING][COLLIDING_BYTES];
+
+static void find_colliding(void) {
+    uint8_t name[COLLIDING_BYTES] = { '#', '#', '#', '#', '#' };
+    for (size_t found = 0; found < COLLIDING;) {
+        if (hash_of_five(name) == 0)
+            for (int i = 0; i < COLLIDING_BYTES; i++) colliding[found][i] = name[i];
+        found += hash_of_five(name) == 0;
+        for (int i = COLLIDING_BYTES - 1; i >= 0; i--) {
+            name[i] += 1 + (name[i] == '[');
+            if (name[i] < 0x7f) break;
+            name[i] = '#';
+        }
     }
+}
+
+static void make_colliding(struct text *t) {
+    if (!colliding[0][0]) find_colliding();
+    add_byte(t, '{');
+    size_t number = 0;
+    for (size_t mark = t->length; fits(t, &mark, 0); number++) add(t, "\"%.5s\":1,", (const char *)colliding[number]);
     t->bytes[t->length - 1] = '}';
 }
 
