@@ -64,14 +64,14 @@ pub fn apart(a: &[u8], b: &[u8]) -> bool
     ensures { λ r. ⌜ (r ≡ true → same (characters (now (a .entry))) (characters (now (b .entry))) ≡ false) ⌝ }
 {
     let x = peek(a, 0);
+    if !is_plain(x) {
+        return false;
+    }
     let y = peek(b, 0);
     if x == y {
         return false;
     }
-    if is_plain(x) {
-        return is_plain(y);
-    }
-    false
+    is_plain(y)
 }
 
 // Whether two names, each as the bytes between its quotes, have the same characters.

@@ -46,16 +46,17 @@ pub fn find(text: &[u8], table: &[u32], object: usize, key: &[u8]) -> usize
     requires { ⌜ ObjectRow (now text) (now table) object ⌝ }
     ensures { λ r. ⌜ Finds (now (text .entry)) (now (table .entry)) object (characters (now (key .entry))) r ⌝ }
 {
+    let key = &key[..];
     let mut left = row_at(table, object).children;
     let mut row = object + 1;
     while left > 0 {
         let name = row_at(table, row);
         let from = name.first as usize + 1;
         let to = name.end as usize - 1;
-        if equal(key, &text[from..to]) {
-            return row + 1;
-        }
         if !apart(key, &text[from..to]) {
+            if equal(key, &text[from..to]) {
+                return row + 1;
+            }
             if same_name(key, &text[from..to]) {
                 return row + 1;
             }
