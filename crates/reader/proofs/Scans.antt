@@ -20,7 +20,7 @@ use Rattle.chars.specs.declared.scalars.First.{First}
 use Rattle.chars.specs.declared.scalars.First.the-variants.{Array, Object, Number}
 use Rattle.chars.specs.Wholes.{WholeStep}
 use Rattle.chars.specs.declared.tokens.Token.the-variants.{Taken}
-use Rattle.chars.proofs.Facts.{run-from, run-within, first-array, first-object, scalar-bounded}
+use Rattle.chars.proofs.Facts.{run-from, run-within, first-array, first-object, array-first as begins-array, scalar-bounded}
 use Rattle.chars.proofs.scalars.First.{the-type}
 use Rattle.chars.specs.declared.hashing.Hashed.{Hashed}
 use Rattle.chars.specs.declared.hashing.Hashed.the-variants.{Name, Broken}
@@ -29,7 +29,9 @@ use Rattle.reader.specs.Rows.{row as rowOf, count, countMembers, size, s
 use Rattle.reader.specs.Grammar.{nameOf, itemsAt, listAt, elementAt, arrayAt, nameAt, memberAt, objectAt, leafAt, valueAt}
 use Rattle.reader.specs.Marks.{leafMark, listMark, nameMark, isName, rowIn, rowsIn}
 use Rattle.reader.specs.Names.{nameFirst, nameEnd, nameIn, ownHash, Owned, Fresh, Within, Kept, bucketOf, Index, NameReady, hashedOf, NameTold}
-use Rattle.reader.specs.Passes.{scanOf, Room, LeafReady, Ready, LeafAfter, LeafTold, Marked, After, Told, MemberReady, MemberMarked, MemberScan, MemberTold}
+use Rattle.reader.specs.Passes.{scanOf, Room, LeafReady, Ready, ListFits, Follows, LeafAfter, LeafTold, Marked, After, Told, MemberReady, MemberMarked, MemberScan, MemberTold}
+use Rattle.reader.specs.declared.scanning.Following.{Following}
+use Rattle.reader.specs.declared.scanning.Following.the-variants.{Closing, Item, Other}
 use Rattle.reader.specs.declared.scanning.Scanned.{Scanned}
 use Rattle.reader.specs.declared.scanning.Scanned.the-variants.{Refused, Value}
 use Rattle.reader.proofs.Items.{Reads, unexpected-both, item-takes, items-refused, items-next, items-close, items-bad, list-empty, list-items, byte-in}
@@ -114,6 +116,7 @@ pub record Bracket (s : List ℕ) (L : Type 0) : Type 0 where
   pub kids : L → ℕ
   pub inner : L → List ℕ
   pub node : L → ℕ → Node
+  pub some : 0 < closing
   pub other : closing ≡ 0x2C → ⊥
   pub kind : object < 2
   pub reads : Reads s rows item
@@ -131,6 +134,7 @@ arrayOf s d at = record {
   kids = count;
   inner = wordsAll;
   node = λ ns e. array at e ns;
+  some = omega arith;
   other = λ q. omega arith;
   kind = omega arith;
   reads = element-reads s d;
@@ -149,6 +153,7 @@ objectOf s d at = record {
   kids = countMembers;
   inner = wordsMembers;
   node = λ ms e. object at e ms;
+  some = omega arith;
   other = λ q. omega arith;
   kind = omega arith;
   reads = member-reads s d;
@@ -190,10 +195,6 @@ pub record Filled (s : List ℕ) (row : ℕ) (hs ms : List ℕ) (t : ℕ) : Type
   pub fresh : Fresh ms t
   pub owned : Within s ms row (row + 1) t
 
--- the numbers of a list's mark fit, and there is a place for it
-abbrev pub ListFits : (o at end children rows r w : ℕ) → Type 0
-ListFits o at end children rows r w = ((at < end) × (end ≤ 65536) × (2 * children + o < 65536) × (rows < 65536)) × (r < w)
-
 -- the first row is written: a list's mark, where no name stood
 module _ {s : List ℕ} {row : ℕ} {hs ms : List ℕ} {t : ℕ} (g : Filled s row hs ms t) (l : row < t) (w : row < length ms) (m : ℕ)
     (free : isName (getD ms row 0) ≡ false) (u : isName m ≡ false) where
@@ -207,7 +208,7 @@ module _ {s : List ℕ} {row : ℕ} {hs ms : List ℕ} {t : ℕ} (g : Filled s r
   header-owned = within-join (within-none row (rw (getD-set-same ms row m 0 w) u)) (within-set row m (omega arith) (g .owned))
 
 module _ {s hs ms : List ℕ} {d row at i x : ℕ} (h : Opened s hs ms d row at i x) where
-  pub opened-inside : 0 < x → i < length s
+  opened-inside : 0 < x → i < length s
   opened-inside l = byte-in s i x l (sym (h .byte))
 
   opened-filled : Filled s row hs ms (row + 1)
@@ -217,34 +218,34 @@ module _ {s hs ms : List ℕ} {d row at i x : ℕ} (h : Opened s hs ms d row at 
     abbrev enclosed : Parse Node
     enclosed = then (listAt (b .closing) (b .item) s empty at) (λ all e. parsed (b .node all e) e)
 
-    first-fits : 0 < x → ListFits (b .object) at (i + 1) 0 1 row (length ms)
-    first-fits l =
+    first-fits : x ≡ b .closing → ListFits (b .object) at (i + 1) 0 1 row (length ms)
+    first-fits c =
         let r = h .ready in
-        let j = opened-inside l in
+        let j = opened-inside (omega (arith, b .some)) in
         let k = run-from isSpace s (at + 1) in
         omega (arith, r .room .short, r .room .rows, r .rowed, h .place, b .kind)
 
-    first-close : 0 < x → x ≡ b .closing → Told s enclosed (Value (i + 1) 1) row ms hs (set ms row (listMark (b .object) at (i + 1) 0 1))
-    first-close l c =
-        let f = first-fits l in
+    first-close : x ≡ b .closing → Told s enclosed (Value (i + 1) 1) row ms hs (set ms row (listMark (b .object) at (i + 1) 0 1))
+    first-close c =
+        let f = first-fits c in
         let z : 1 ≡ suc (b .rows empty) = omega arith in
         let m = listMark (b .object) at (i + 1) 0 1 in
         let y : size (b .node empty (i + 1)) ≡ 1 = b .sized empty (i + 1) ∙ sym z in
         let v = h .ready .fresh .none row (omega arith) in
-        let u : isName m ≡ false = list-unnamed (b .object) at (i + 1) 0 1 (b .kind) (f .0 .0) (f .0 .1) (omega arith) (omega arith) (f .0 .2) in
+        let u : isName m ≡ false = list-unnamed (b .object) at (i + 1) 0 1 (b .kind) (f .0) (f .1) (omega arith) (omega arith) (f .2) in
         answer-value (b .node empty (i + 1)) (rw (list-empty (b .closing) (b .item) s empty at (h .place) (sym (h .byte) ∙ c))) (sym y)
         (record {
-          index = header-index opened-filled (omega arith) (f .1) m v u;
-          fresh = rw y (header-fresh opened-filled (omega arith) (f .1) m v u);
+          index = header-index opened-filled (omega arith) (f .4) m v u;
+          fresh = rw y (header-fresh opened-filled (omega arith) (f .4) m v u);
           below = take-set-le row ms row m (omega arith);
           rows =
               ap (λ (k : ℕ). rowsIn (slice row (row + k) (set ms row m))) y
-              ∙ ap rowsIn (slice-header row (row + 1) m ms (omega arith) (omega (arith, f .1)) ∙ rw slice-empty)
+              ∙ ap rowsIn (slice-header row (row + 1) m ms (omega arith) (omega (arith, f .4)) ∙ rw slice-empty)
               ∙ rows-cons m []
               ∙ ap (λ (ys : List ℕ). rowIn m ++ ys) rows-none
-              ∙ ap (λ (ys : List ℕ). ys ++ []) (list-row (b .object) at (i + 1) 0 1 (b .kind) (f .0 .0) (f .0 .1) (omega arith) (omega arith) (f .0 .2))
+              ∙ ap (λ (ys : List ℕ). ys ++ []) (list-row (b .object) at (i + 1) 0 1 (b .kind) (f .0) (f .1) (omega arith) (omega arith) (f .2))
               ∙ sym (b .spelled empty (i + 1) ∙ rw (← same, nobody, ← z, nothing));
-          owned = rw y (header-owned opened-filled (omega arith) (f .1) m v u);
+          owned = rw y (header-owned opened-filled (omega arith) (f .4) m v u);
         })
 
     first-item : (x ≡ b .closing → ⊥) → Along b enclosed empty d row hs ms ms 1 i
@@ -306,68 +307,88 @@ module _ {L : Type 0} {s : List ℕ} {b : Bracket s L} {o : Parse Node} {d row :
       ∙ ap (λ (ys : List ℕ). ys ++ rowsIn (slice (row + rows) (row + (rows + more)) ms)) (a .inner)
       ∙ sym (t .kept)
 
-  -- x stands behind the item and the space after it
-  module _ {j x : ℕ} (z : j ≡ skip s e) (y : x ≡ byteAt s j) where
-    pub turn-inside : 0 < x → j < length s
-    turn-inside l = byte-in s j x l (sym y)
-
-    -- there is room for all rows
-    turn-room : 0 < x → (row + (rows + more) ≤ length ms) × (e ≤ j)
-    turn-room l =
+  -- j lies behind the item and the space after it
+  module _ {j : ℕ} (z : j ≡ skip s e) where
+    -- if a byte stands there, there is room for all rows
+    turn-room : (x : ℕ) → 0 < x → byteAt s j ≡ x → (row + (rows + more) ≤ length ms) × (e ≤ j) × (j < length s)
+    turn-room x l y =
         let a = t .along in
-        omega (arith, turn-takes, a .ready .rowed, along-room a .rows, run-from isSpace s e, turn-inside l)
+        omega (arith, turn-takes, a .ready .rowed, along-room a .rows, run-from isSpace s e, byte-in s j x l y)
 
-    module _ {children : ℕ} (k : children ≡ b .kids (t .all)) where
-      pub turn-fits : 0 < x → ListFits (b .object) (b .at) (j + 1) children (rows + more) row (length ms)
-      turn-fits l =
-          omega (arith, turn-takes, turn-room l, turn-inside l, t .along .ready .room .short, b .few (t .all), b .kind, k)
+    module _ (c : byteAt s j ≡ b .closing) {children : ℕ} (k : children ≡ b .kids (t .all)) where
+      closing-room : (row + (rows + more) ≤ length ms) × (e ≤ j) × (j < length s)
+      closing-room = turn-room (b .closing) (b .some) c
 
-      pub turn-close : 0 < x → x ≡ b .closing → {hs₂ : List ℕ} → Filled s row hs₂ ms (row + (rows + more))
+      closing-fits : ListFits (b .object) (b .at) (j + 1) children (rows + more) row (length ms)
+      closing-fits = omega (arith, turn-takes, closing-room, t .along .ready .room .short, b .few (t .all), b .kind, k)
+
+      closing-told : {hs₂ : List ℕ} → Filled s row hs₂ ms (row + (rows + more))
           → Told s o (Value (j + 1) (rows + more)) row ms₀ hs₂ (set ms row (listMark (b .object) (b .at) (j + 1) children (rows + more)))
-      turn-close l c g =
-          let f = turn-fits l in
+      closing-told g =
+          let f = closing-fits in
           let a = t .along in
           let m = listMark (b .object) (b .at) (j + 1) children (rows + more) in
           let u : rows + more ≡ suc (b .rows (t .all)) = turn-takes .4 in
           let w : size (b .node (t .all) (j + 1)) ≡ rows + more = b .sized (t .all) (j + 1) ∙ sym u in
-          let v : isName m ≡ false = list-unnamed (b .object) (b .at) (j + 1) children (rows + more) (b .kind) (f .0 .0) (f .0 .1) (omega arith) (f .0 .3) (f .0 .2) in
-          answer-value (b .node (t .all) (j + 1)) (rw (a .whole, items-close (b .reads) (b .closing) (t .item) z (b .other) (sym y ∙ c))) (sym w)
+          let v : isName m ≡ false = list-unnamed (b .object) (b .at) (j + 1) children (rows + more) (b .kind) (f .0) (f .1) (omega arith) (f .3) (f .2) in
+          answer-value (b .node (t .all) (j + 1)) (rw (a .whole, items-close (b .reads) (b .closing) (t .item) z (b .other) c)) (sym w)
           (record {
-            index = header-index g (omega arith) (f .1) m (along-free a) v;
-            fresh = rw w (header-fresh g (omega arith) (f .1) m (along-free a) v);
+            index = header-index g (omega arith) (f .4) m (along-free a) v;
+            fresh = rw w (header-fresh g (omega arith) (f .4) m (along-free a) v);
             below = take-set-le row ms row m (omega arith) ∙ kept-below row (row + 1) ms ms₀ (omega arith) (a .below);
             rows =
                 ap (λ (n : ℕ). rowsIn (slice row (row + n) (set ms row m))) w
-                ∙ ap rowsIn (slice-header row (row + (rows + more)) m ms (omega arith) (turn-room l .0))
+                ∙ ap rowsIn (slice-header row (row + (rows + more)) m ms (omega arith) (closing-room .0))
                 ∙ rows-cons m (slice (row + 1) (row + (rows + more)) ms)
-                ∙ ap (λ (ys : List ℕ). rowIn m ++ ys) (turn-inner (turn-room l .0))
+                ∙ ap (λ (ys : List ℕ). rowIn m ++ ys) (turn-inner (closing-room .0))
                 ∙ ap (λ (ys : List ℕ). ys ++ b .inner (t .all))
-                (list-row (b .object) (b .at) (j + 1) children (rows + more) (b .kind) (f .0 .0) (f .0 .1) (omega arith) (f .0 .3) (f .0 .2))
+                (list-row (b .object) (b .at) (j + 1) children (rows + more) (b .kind) (f .0) (f .1) (omega arith) (f .3) (f .2))
                 ∙ sym (b .spelled (t .all) (j + 1) ∙ rw (← k, ← u));
-            owned = rw w (header-owned g (omega arith) (f .1) m (along-free a) v);
+            owned = rw w (header-owned g (omega arith) (f .4) m (along-free a) v);
           })
 
-    pub turn-bad : {r : Scanned} {hs₂ ms₂ : List ℕ} → (x ≡ b .closing → ⊥) → (x ≡ 0x2C → ⊥) → r ≡ scanOf (unexpected s j) → Told s o r row ms₀ hs₂ ms₂
-    turn-bad m n q =
-        answer-bad j (rw (t .along .whole, items-bad (b .reads) (b .closing) (t .item) z (λ w. n (y ∙ w)) (λ w. m (y ∙ w)), unexpected-then)) q
+  -- what stands behind the item and the space after it
+  module _ {r : Following} (h : Follows (b .closing) s (skip s e) r) where
+    module _ {f : ℕ} (q : r ≡ Closing f) {children : ℕ} (k : children ≡ b .kids (t .all)) where
+      closed : (byteAt s (skip s e) ≡ b .closing) × (f ≡ skip s e + 1)
+      closed = rw q at h
 
-    module _ (c : x ≡ 0x2C) {i₂ : ℕ} (w : i₂ ≡ skip s (j + 1)) where
+      pub turn-fits : ListFits (b .object) (b .at) f children (rows + more) row (length ms)
+      turn-fits = rw (closed .1) (closing-fits refl (closed .0) k)
+
+      pub turn-close : {hs₂ : List ℕ} → Filled s row hs₂ ms (row + (rows + more))
+          → Told s o (Value f (rows + more)) row ms₀ hs₂ (set ms row (listMark (b .object) (b .at) f children (rows + more)))
+      turn-close g = rw (closed .1) (closing-told refl (closed .0) k g)
+
+    pub turn-bad : {j : ℕ} {w : Scanned} {hs₂ ms₂ : List ℕ} → r ≡ Other j → w ≡ scanOf (unexpected s j) → Told s o w row ms₀ hs₂ ms₂
+    turn-bad {j} q u =
+        let n : (j ≡ skip s e) × (byteAt s (skip s e) ≡ 0x2C → ⊥) × (byteAt s (skip s e) ≡ b .closing → ⊥) = rw q at h in
+        let y = ap (byteAt s) (sym (n .0)) in
+        answer-bad j (rw (t .along .whole, items-bad (b .reads) (b .closing) (t .item) (n .0) (λ v. n .1 (y ∙ v)) (λ v. n .2 (y ∙ v)), unexpected-then)) u
+
+    module _ {i₂ : ℕ} (q : r ≡ Item i₂) where
+      further : (byteAt s (skip s e) ≡ 0x2C) × (i₂ ≡ skip s (skip s e + 1))
+      further = rw q at h
+
+      further-room : (row + (rows + more) ≤ length ms) × (e ≤ skip s e) × (skip s e < length s)
+      further-room = turn-room refl 0x2C (omega arith) (further .0)
+
       pub turn-on : (i < e) × (e < i₂) × (i₂ ≤ length s)
       turn-on =
-          let l : j < length s = turn-inside (omega arith) in
-          omega (arith, turn-takes, run-from isSpace s e, run-from isSpace s (j + 1), run-within isSpace s (j + 1) (omega arith))
+          let j = skip s e in
+          omega (arith, turn-takes, further-room, further .1, run-from isSpace s (j + 1), run-within isSpace s (j + 1) (omega (arith, further-room)))
 
       turn-next : Along b o (t .all) d row hs₀ ms₀ ms (rows + more) i₂
       turn-next =
           let a = t .along in
           record {
             ready = a .ready;
-            whole = rw (a .whole, items-next (b .reads) (b .closing) (t .item) z (sym y ∙ c), ← w);
+            whole = rw (a .whole, items-next (b .reads) (b .closing) (t .item) refl (further .0), ← further .1);
             counted = turn-takes .4;
             spent = omega (arith, turn-takes, turn-on);
             inside = turn-on .2;
             below = a .below;
-            inner = turn-inner (turn-room (omega arith) .0);
+            inner = turn-inner (further-room .0);
             marked = a .marked;
           }
 
@@ -389,11 +410,11 @@ pub record ElementTurn (s : List ℕ) (d at row : ℕ) (hs₀ ms₀ hs ms : List
   pub headed : length hs ≡ length hs₀
 
 module _ {s hs ms : List ℕ} {d row at i x : ℕ} (h : Opened s hs ms d row at i x) where
-  pub array-empty-fits : 0 < x → ListFits 0 at (i + 1) 0 1 row (length ms)
+  pub array-empty-fits : x ≡ 0x5D → ListFits 0 at (i + 1) 0 1 row (length ms)
   array-empty-fits = first-fits h (arrayOf s d at) refl none refl refl refl
 
   pub array-empty : x ≡ 0x5D → Told s (arrayAt (valueAt d s) s at) (Value (i + 1) 1) row ms hs (set ms row (listMark 0 at (i + 1) 0 1))
-  array-empty q = first-close h (arrayOf s d at) refl none refl refl refl (omega arith) q
+  array-empty q = first-close h (arrayOf s d at) refl none refl refl refl q
 
   pub array-first : (x ≡ 0x5D → ⊥) → InArray s d at row hs ms hs ms 1 0 i
   array-first n = record { before = none; along = first-item h (arrayOf s d at) refl none refl refl refl n; filled = opened-filled h; kids = refl; headed = refl }
@@ -439,10 +460,10 @@ pub element-few : {s : List ℕ} {d at row : ℕ} {hs₀ ms₀ hs ms : List ℕ}
     → ElementTurn s d at row hs₀ ms₀ hs ms rows children i e more → children + 1 ≤ e
 element-few t = omega (arith, t .kids, count-few (t .turn .all), turn-takes (t .turn))
 
-pub array-next : {s : List ℕ} {d at row : ℕ} {hs₀ ms₀ hs ms : List ℕ} {rows children i e more j x i₂ : ℕ}
+pub array-next : {s : List ℕ} {d at row : ℕ} {hs₀ ms₀ hs ms : List ℕ} {rows children i e more i₂ : ℕ} {r : Following}
     → ElementTurn s d at row hs₀ ms₀ hs ms rows children i e more
-    → j ≡ skip s e → x ≡ byteAt s j → x ≡ 0x2C → i₂ ≡ skip s (j + 1) → InArray s d at row hs₀ ms₀ hs ms (rows + more) (children + 1) i₂
-array-next t z y c w = record { before = t .turn .all; along = turn-next (t .turn) z y c w; filled = t .filled; kids = t .kids; headed = t .headed }
+    → Follows 0x5D s (skip s e) r → r ≡ Item i₂ → InArray s d at row hs₀ ms₀ hs ms (rows + more) (children + 1) i₂
+array-next t h q = record { before = t .turn .all; along = turn-next (t .turn) h q; filled = t .filled; kids = t .kids; headed = t .headed }
 
 -- ---- objects
 
@@ -464,11 +485,11 @@ pub record MemberTurn (s : List ℕ) (d at row : ℕ) (hs₀ ms₀ hs ms : List 
   pub kept : Kept s row ms (row + 1) (turn .all)
 
 module _ {s hs ms : List ℕ} {d row at i x : ℕ} (h : Opened s hs ms d row at i x) where
-  pub object-empty-fits : 0 < x → ListFits 1 at (i + 1) 0 1 row (length ms)
+  pub object-empty-fits : x ≡ 0x7D → ListFits 1 at (i + 1) 0 1 row (length ms)
   object-empty-fits = first-fits h (objectOf s d at) refl no-member refl refl refl
 
   pub object-empty : x ≡ 0x7D → Told s (objectAt (valueAt d s) s at) (Value (i + 1) 1) row ms hs (set ms row (listMark 1 at (i + 1) 0 1))
-  object-empty q = first-close h (objectOf s d at) refl no-member refl refl refl (omega arith) q
+  object-empty q = first-close h (objectOf s d at) refl no-member refl refl refl q
 
   pub object-first : (x ≡ 0x7D → ⊥) → InObject s d at row hs ms hs ms 1 0 i
   object-first n = record {
@@ -543,11 +564,10 @@ module _ {s : List ℕ} {d at row : ℕ} {hs₀ ms₀ hs ms : List ℕ} {rows ch
   pub member-few : children + 1 ≤ e
   member-few = omega (arith, t .kids, countMembers-few (t .turn .all), turn-takes (t .turn))
 
-  pub object-next : {j x i₂ : ℕ} → j ≡ skip s e → x ≡ byteAt s j → x ≡ 0x2C → i₂ ≡ skip s (j + 1)
-      → InObject s d at row hs₀ ms₀ hs ms (rows + more) (children + 1) i₂
-  object-next z y c w = record {
+  pub object-next : {i₂ : ℕ} {r : Following} → Follows 0x7D s (skip s e) r → r ≡ Item i₂ → InObject s d at row hs₀ ms₀ hs ms (rows + more) (children + 1) i₂
+  object-next h q = record {
     before = t .turn .all;
-    along = turn-next (t .turn) z y c w;
+    along = turn-next (t .turn) h q;
     filled = t .filled;
     kids = t .kids;
     headed = t .headed;
@@ -789,6 +809,20 @@ module _ {s : List ℕ} {i : ℕ} {f : First} (b : Begun s i f) where
 -- the brackets that may open in an array or object
 pub opens-ready : {s hs ms : List ℕ} {d row i : ℕ} → (d ≡ 0 → ⊥) → Ready s hs ms d row i → Ready s hs ms (d - 1 + 1) row i
 opens-ready {d = d} n r = let z : d - 1 + 1 ≡ d = omega arith in rw z r
+
+-- a bracket stands at i
+module _ {s hs ms : List ℕ} {d row i x : ℕ} (p : Ready s hs ms d row i) (y : x ≡ byteAt s i) (q : x ≡ 0x5B) where
+  bracket-begun : Begun s i Array
+  bracket-begun = record { first = sym (begins-array (byteAt s i) (sym y ∙ q)) }
+
+  pub bracket-deep : {hs₂ ms₂ : List ℕ} → d ≡ 0 → Told s (valueAt d s i) (Refused 7 i) row ms hs₂ ms₂
+  bracket-deep n = array-deep bracket-begun d refl n
+
+  pub bracket-ready : (d ≡ 0 → ⊥) → Ready s hs ms (d - 1 + 1) row i × (i < length s)
+  bracket-ready n = (opens-ready n p, array-in bracket-begun refl)
+
+  pub told-bracket : {r : Scanned} {hs₂ ms₂ : List ℕ} → (d ≡ 0 → ⊥) → Told s (arrayAt (valueAt (d - 1) s) s i) r row ms hs₂ ms₂ → Told s (valueAt d s i) r row ms hs₂ ms₂
+  told-bracket n o = told-array bracket-begun d refl n o
 
 -- there is a place for the row of a value that holds no other
 pub leaf-free : {s hs ms : List ℕ} {d row i : ℕ} → Ready s hs ms d row i → (length s ≤ 65536) × (i < length s → row < length ms)

@@ -5,12 +5,16 @@ use mathlib.Core.Bool.{false}
 use mathlib.Core.List.{List, _++_}
 use lib.ListN.{length, take, set}
 use lib.Seq.{slice}
+use Rattle.chars.specs.Bytes.{byteAt}
 use Rattle.chars.specs.Parse.{Parse, refused, parsed}
+use Rattle.chars.specs.Space.{skip}
 use Rattle.reader.specs.Tree.{Node, Members}
 use Rattle.reader.specs.Rows.{size, sizesMembers, words, wordsMembers}
 use Rattle.reader.specs.Grammar.{valueAt, memberAt}
 use Rattle.reader.specs.Marks.{isName, rowIn, rowsIn}
 use Rattle.reader.specs.Names.{Fresh, Within, Kept, Index}
+use Rattle.reader.specs.declared.scanning.Following.{Following}
+use Rattle.reader.specs.declared.scanning.Following.the-variants.{Closing, Item, Other}
 use Rattle.reader.specs.declared.scanning.Scanned.{Scanned}
 use Rattle.reader.specs.declared.scanning.Scanned.the-variants.{Refused, Value}
 
@@ -38,6 +42,10 @@ pub record Ready (s hs ms : List ℕ) (d row i : ℕ) : Type 0 where
   pub rowed : 2 * row + d ≤ i + 33
   pub inside : i ≤ length s
 
+-- the numbers of a list's mark fit, and there is a place for it among w
+abbrev pub ListFits : (o i e children rows row w : ℕ) → Type 0
+ListFits o i e children rows row w = (i < e) × (e ≤ 65536) × (2 * children + o < 65536) × (rows < 65536) × (row < w)
+
 -- a member at a place of the object at row o, behind some others
 pub record MemberReady (s hs ms : List ℕ) (d o row i : ℕ) : Type 0 where
   pub ready : Ready s hs ms d row i
@@ -46,6 +54,12 @@ pub record MemberReady (s hs ms : List ℕ) (d o row i : ℕ) : Type 0 where
   pub behind : row ≡ o + 1 + sizesMembers before
 
 -- ---- what it answers
+
+-- what stands at j, behind an item of a list that the byte `closing` ends and the space after it
+abbrev pub Follows : ℕ → List ℕ → ℕ → Following → Type 0
+Follows closing s j (Closing e) = (byteAt s j ≡ closing) × (e ≡ j + 1)
+Follows closing s j (Item i) = (byteAt s j ≡ 0x2C) × (i ≡ skip s (j + 1))
+Follows closing s j (Other i) = (i ≡ j) × (byteAt s j ≡ 0x2C → ⊥) × (byteAt s j ≡ closing → ⊥)
 
 -- the mark is no name's
 abbrev pub LeafAfter : Parse Node → ℕ → List ℕ → List ℕ → Type 0

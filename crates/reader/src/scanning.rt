@@ -13,10 +13,13 @@ use chars::skip;
 use chars::whole_end;
 ghost use mathlib.Core.Path.{_≡_};
 ghost use Prim.Native.Nat.{_+_, _<_};
-ghost use lib.ListN.{length};
+ghost use lib.ListN.{length, set};
 ghost use Rattle.chars.specs.Parse.{unexpected};
+ghost use Rattle.chars.specs.Space.{skip as skipped};
 ghost use Rattle.reader.specs.Grammar.{leafAt, valueAt, arrayAt, objectAt};
-ghost use Rattle.reader.specs.Passes.{scanOf, LeafReady, LeafTold, Ready, Told, MemberReady, MemberTold};
+ghost use Rattle.reader.specs.Marks.{listMark};
+ghost use Rattle.reader.specs.Passes.{scanOf, LeafReady, LeafTold, ListFits, Follows, Ready, Told, MemberReady, MemberTold};
+ghost use Rattle.reader.specs.declared.scanning.Scanned.the-variants.{Value};
 
 // A value: where it ends and how many rows it has; or a refusal.
 pub enum Scanned {
@@ -50,6 +53,49 @@ fn leaf(text: &[u8], marks: &mut [u64], row: usize, at: usize) -> Scanned
             Scanned::Value { end, rows: 1 }
         }
     }
+}
+
+// What stands behind an item and the space after it: the closing byte, a comma with the next item behind it, or neither.
+enum Following {
+    Closing { end: usize },
+    Item { at: usize },
+    Other { at: usize },
+}
+
+// The same of an item that ends at a place.
+fn behind(text: &[u8], end: usize, closing: u8) -> Following
+    requires { ⌜ 0 < closing ⌝ }
+    ensures { λ r. ⌜ Follows closing (now (text .entry)) (skipped (now (text .entry)) end) r ⌝ }
+{
+    let j = skip(text, end);
+    let b = peek(text, j);
+    if b == closing {
+        return Following::Closing { end: j + 1 };
+    }
+    if b != b',' {
+        return Following::Other { at: j };
+    }
+    Following::Item {
+        at: skip(text, j + 1),
+    }
+}
+
+// Keeps the row of an array, of which `object` is 0, or of an object, of which it is 1.
+fn close(
+    marks: &mut [u64],
+    object: usize,
+    row: usize,
+    at: usize,
+    end: usize,
+    children: usize,
+    rows: usize,
+) -> Scanned
+    requires { ⌜ ListFits object at end children rows row (length (now marks)) ⌝ }
+    ensures { λ r. ⌜ r ≡ Value end rows ⌝ }
+    ensures { λ _. ⌜ now (marks .exit) ≡ set (now (marks .entry)) row (listMark object at end children rows) ⌝ }
+{
+    marks[row] = list_mark(object, at, end, children, rows);
+    Scanned::Value { end, rows }
 }
 
 // The value at a place, with `depth` more brackets allowed to open, and the marks free from `row` on.
@@ -115,11 +161,7 @@ fn array(
 {
     let mut i = skip(text, at + 1);
     if peek(text, i) == b']' {
-        marks[row] = list_mark(0, at, i + 1, 0, 1);
-        return Scanned::Value {
-            end: i + 1,
-            rows: 1,
-        };
+        return close(marks, 0, row, at, i + 1, 0, 1);
     }
     let mut rows: usize = 1;
     let mut children: usize = 0;
@@ -131,19 +173,84 @@ fn array(
             Scanned::Value { end, rows: more } => {
                 rows += more;
                 children += 1;
-                let j = skip(text, end);
-                let b = peek(text, j);
-                if b == b']' {
-                    marks[row] = list_mark(0, at, j + 1, children, rows);
-                    return Scanned::Value { end: j + 1, rows };
+                match behind(text, end, b']') {
+                    Following::Closing { end: e } => {
+                        return close(marks, 0, row, at, e, children, rows);
+                    }
+                    Following::Item { at: next } => {
+                        i = next;
+                    }
+                    Following::Other { at: j } => {
+                        return refuse(text, j);
+                    }
                 }
-                if b != b',' {
-                    return refuse(text, j);
-                }
-                i = skip(text, j + 1);
             }
         }
     }
+}
+
+// The same under a name. The compiler merges a function that is called once into its caller, so an array and the object around it
+// take one call together: a processor foretells only so many returns.
+fn named_array(
+    text: &[u8],
+    heads: &mut [u16],
+    marks: &mut [u64],
+    row: usize,
+    at: usize,
+    depth: usize,
+) -> Scanned
+    requires { ⌜ Ready (now text) (now heads) (now marks) (depth + 1) row at × (at < length (now text)) ⌝ }
+    ensures { λ r. ⌜ Told (now (text .entry)) (arrayAt (valueAt depth (now (text .entry))) (now (text .entry)) at) r row (now (marks .entry)) (now (heads .exit)) (now (marks .exit)) ⌝ }
+{
+    let mut i = skip(text, at + 1);
+    if peek(text, i) == b']' {
+        return close(marks, 0, row, at, i + 1, 0, 1);
+    }
+    let mut rows: usize = 1;
+    let mut children: usize = 0;
+    loop {
+        match item(text, heads, marks, row + rows, i, depth) {
+            Scanned::Refused { code, place } => {
+                return Scanned::Refused { code, place };
+            }
+            Scanned::Value { end, rows: more } => {
+                rows += more;
+                children += 1;
+                match behind(text, end, b']') {
+                    Following::Closing { end: e } => {
+                        return close(marks, 0, row, at, e, children, rows);
+                    }
+                    Following::Item { at: next } => {
+                        i = next;
+                    }
+                    Following::Other { at: j } => {
+                        return refuse(text, j);
+                    }
+                }
+            }
+        }
+    }
+}
+
+// What stands under a name.
+fn under(
+    text: &[u8],
+    heads: &mut [u16],
+    marks: &mut [u64],
+    row: usize,
+    at: usize,
+    depth: usize,
+) -> Scanned
+    requires { ⌜ Ready (now text) (now heads) (now marks) depth row at ⌝ }
+    ensures { λ r. ⌜ Told (now (text .entry)) (valueAt depth (now (text .entry)) at) r row (now (marks .entry)) (now (heads .exit)) (now (marks .exit)) ⌝ }
+{
+    if peek(text, at) == b'[' {
+        if depth == 0 {
+            return Scanned::Refused { code: 7, place: at };
+        }
+        return named_array(text, heads, marks, row, at, depth - 1);
+    }
+    item(text, heads, marks, row, at, depth)
 }
 
 // The member at a place of the object at row `object`, with the marks free from `row` on.
@@ -168,7 +275,7 @@ fn member(
                 return refuse(text, j);
             }
             let k = skip(text, j + 1);
-            match item(text, heads, marks, row + 1, k, depth) {
+            match under(text, heads, marks, row + 1, k, depth) {
                 Scanned::Refused { code, place } => Scanned::Refused { code, place },
                 Scanned::Value { end, rows } => Scanned::Value {
                     end,
@@ -193,11 +300,7 @@ fn object(
 {
     let mut i = skip(text, at + 1);
     if peek(text, i) == b'}' {
-        marks[row] = list_mark(1, at, i + 1, 0, 1);
-        return Scanned::Value {
-            end: i + 1,
-            rows: 1,
-        };
+        return close(marks, 1, row, at, i + 1, 0, 1);
     }
     let mut rows: usize = 1;
     let mut children: usize = 0;
@@ -209,16 +312,17 @@ fn object(
             Scanned::Value { end, rows: more } => {
                 rows += more;
                 children += 1;
-                let j = skip(text, end);
-                let b = peek(text, j);
-                if b == b'}' {
-                    marks[row] = list_mark(1, at, j + 1, children, rows);
-                    return Scanned::Value { end: j + 1, rows };
+                match behind(text, end, b'}') {
+                    Following::Closing { end: e } => {
+                        return close(marks, 1, row, at, e, children, rows);
+                    }
+                    Following::Item { at: next } => {
+                        i = next;
+                    }
+                    Following::Other { at: j } => {
+                        return refuse(text, j);
+                    }
                 }
-                if b != b',' {
-                    return refuse(text, j);
-                }
-                i = skip(text, j + 1);
             }
         }
     }

@@ -1,4 +1,4 @@
--- The first pass meets its contracts. The measure is four times the brackets allowed to open, with three more in `array` and `object`, two in `member` and one in `item`.
+-- The first pass meets its contracts. The measure is five times the brackets allowed to open, with four more in `array`, `named_array` and `object`, three in `member`, two in `under` and one in `item`.
 -- The loops' invariants are `InArray` and `InObject`; `Scans` has a law for each way out of their bodies. Below each member's name stands what is known at its places.
 use Prim.Native.Nat.{ℕ, _+_, _-_, _*_, _<_}
 use mathlib.Core.Path.{_≡_, sym, ap, _∙_}
@@ -7,57 +7,70 @@ use borrow.Author.Needs.{needs}
 use lib.ListN.{length, getD, length-set}
 use Rattle.chars.specs.Scalars.{firstOf}
 use Rattle.reader.specs.Names.{bucketOf}
-use Rattle.reader.proofs.Scans.{ListFits, Opened, opened-inside, turn-takes, turn-inside, turn-fits, turn-close, turn-bad, turn-on}
+use Rattle.reader.proofs.Scans.{Opened, turn-takes, turn-fits, turn-close, turn-bad, turn-on}
 use Rattle.reader.proofs.Scans.{InArray, ElementTurn, array-empty-fits, array-empty, array-first, array-ready, array-refused, array-turn, element-few, array-next}
 use Rattle.reader.proofs.Scans.{InObject, MemberTurn, object-empty-fits, object-empty, object-first, object-ready, object-refused, object-turn, member-few, object-next}
 use Rattle.reader.proofs.Scans.{NameRead, Named, name-ready, name-read, name-room, name-link, told-unnamed, told-bare, name-behind, named-ready, named-rows}
 use Rattle.reader.proofs.Scans.{told-valueless, told-member}
-use Rattle.reader.proofs.Scans.{Begun, array-in, object-in, array-deep, object-deep, told-leaf, told-array, told-object, opens-ready, leaf-free}
+use Rattle.reader.proofs.Scans.{Begun, array-in, object-in, array-deep, object-deep, told-leaf, told-array, told-object, opens-ready, bracket-deep, bracket-ready, told-bracket, leaf-free}
 use Rattle.reader.proofs.Scans.{whole-fits, told-whole}
 use borrow.Fn.Kinds.{In}
 use borrow.Fn.PlainCycle.{Measures, is, falls, and}
 use Rattle.reader.proofs.scanning.array.Reads as array
 use Rattle.reader.proofs.scanning.array.Kinds as array-kinds
-use Rattle.reader.proofs.scanning.+array+item+member+object+value.Lts-array as array-lts
+use Rattle.reader.proofs.scanning.+array+item+member+named_array+object+under+value.Lts-array as array-lts
 use Rattle.reader.proofs.scanning.item.Reads as item
 use Rattle.reader.proofs.scanning.item.Kinds as item-kinds
-use Rattle.reader.proofs.scanning.+array+item+member+object+value.Lts-item as item-lts
+use Rattle.reader.proofs.scanning.+array+item+member+named_array+object+under+value.Lts-item as item-lts
 use Rattle.reader.proofs.scanning.member.Reads as member
 use Rattle.reader.proofs.scanning.member.Kinds as member-kinds
-use Rattle.reader.proofs.scanning.+array+item+member+object+value.Lts-member as member-lts
+use Rattle.reader.proofs.scanning.+array+item+member+named_array+object+under+value.Lts-member as member-lts
+use Rattle.reader.proofs.scanning.named_array.Reads as named-array
+use Rattle.reader.proofs.scanning.named_array.Kinds as named-array-kinds
+use Rattle.reader.proofs.scanning.+array+item+member+named_array+object+under+value.Lts-named_array as named-array-lts
 use Rattle.reader.proofs.scanning.object.Reads as object
 use Rattle.reader.proofs.scanning.object.Kinds as object-kinds
-use Rattle.reader.proofs.scanning.+array+item+member+object+value.Lts-object as object-lts
+use Rattle.reader.proofs.scanning.+array+item+member+named_array+object+under+value.Lts-object as object-lts
+use Rattle.reader.proofs.scanning.under.Reads as under
+use Rattle.reader.proofs.scanning.under.Kinds as under-kinds
+use Rattle.reader.proofs.scanning.+array+item+member+named_array+object+under+value.Lts-under as under-lts
 use Rattle.reader.proofs.scanning.value.Reads as value
 use Rattle.reader.proofs.scanning.value.Kinds as value-kinds
-use Rattle.reader.proofs.scanning.+array+item+member+object+value.Lts-value as value-lts
+use Rattle.reader.proofs.scanning.+array+item+member+named_array+object+under+value.Lts-value as value-lts
 use Rattle.chars.proofs.peek.Reads as peek-reads
 use Rattle.chars.proofs.begins.Reads as begins-reads
 use Rattle.chars.proofs.skip.Reads as skip-reads
 use Rattle.chars.proofs.whole_end.Reads as whole-end-reads
 use Rattle.reader.proofs.marks.leaf_mark.Reads as leaf-mark-reads
-use Rattle.reader.proofs.marks.list_mark.Reads as list-mark-reads
 use Rattle.reader.proofs.names.name.Reads as name-reads
 use Rattle.reader.proofs.names.push.Reads as push-reads
+use Rattle.reader.proofs.scanning.behind.Reads as behind-reads
+use Rattle.reader.proofs.scanning.close.Reads as close-reads
 use Rattle.reader.proofs.scanning.leaf.Reads as leaf-reads
 use Rattle.reader.proofs.scanning.refuse.Reads as refuse-reads
-use Rattle.reader.proofs.scanning.+array+item+member+object+value.{statement}
-use Rattle.reader.proofs.scanning.+array+item+member+object+value.Tie.{close}
+use Rattle.reader.proofs.scanning.+array+item+member+named_array+object+under+value.{statement}
+use Rattle.reader.proofs.scanning.+array+item+member+named_array+object+under+value.Tie.{close}
 
 abbrev μ-array : Measures 3 array-kinds.ps ℕ
-μ-array κs a = 4 * a .1 .1 .1 .1 .1 .0 + 3
+μ-array κs a = 5 * a .1 .1 .1 .1 .1 .0 + 4
 
 abbrev μ-item : Measures 3 item-kinds.ps ℕ
-μ-item κs a = 4 * a .1 .1 .1 .1 .1 .0 + 1
+μ-item κs a = 5 * a .1 .1 .1 .1 .1 .0 + 1
 
 abbrev μ-member : Measures 3 member-kinds.ps ℕ
-μ-member κs a = 4 * a .1 .1 .1 .1 .1 .1 .0 + 2
+μ-member κs a = 5 * a .1 .1 .1 .1 .1 .1 .0 + 3
+
+abbrev μ-named-array : Measures 3 named-array-kinds.ps ℕ
+μ-named-array κs a = 5 * a .1 .1 .1 .1 .1 .0 + 4
 
 abbrev μ-object : Measures 3 object-kinds.ps ℕ
-μ-object κs a = 4 * a .1 .1 .1 .1 .1 .0 + 3
+μ-object κs a = 5 * a .1 .1 .1 .1 .1 .0 + 4
+
+abbrev μ-under : Measures 3 under-kinds.ps ℕ
+μ-under κs a = 5 * a .1 .1 .1 .1 .1 .0 + 2
 
 abbrev μ-value : Measures 3 value-kinds.ps ℕ
-μ-value κs a = 4 * a .1 .1 .1 .1 .1 .0
+μ-value κs a = 5 * a .1 .1 .1 .1 .1 .0
 
 abbrev array-at : ℕ → In 3 array-kinds.ps
 array-at t = and 3 array-kinds.ps (is 3 array-kinds.ps μ-array t) array.Pre
@@ -77,11 +90,23 @@ member-at t = and 3 member-kinds.ps (is 3 member-kinds.ps μ-member t) member.Pr
 abbrev member-below : ℕ → In 3 member-kinds.ps
 member-below t = and 3 member-kinds.ps (falls 3 member-kinds.ps _<_ μ-member t) member.Pre
 
+abbrev named-array-at : ℕ → In 3 named-array-kinds.ps
+named-array-at t = and 3 named-array-kinds.ps (is 3 named-array-kinds.ps μ-named-array t) named-array.Pre
+
+abbrev named-array-below : ℕ → In 3 named-array-kinds.ps
+named-array-below t = and 3 named-array-kinds.ps (falls 3 named-array-kinds.ps _<_ μ-named-array t) named-array.Pre
+
 abbrev object-at : ℕ → In 3 object-kinds.ps
 object-at t = and 3 object-kinds.ps (is 3 object-kinds.ps μ-object t) object.Pre
 
 abbrev object-below : ℕ → In 3 object-kinds.ps
 object-below t = and 3 object-kinds.ps (falls 3 object-kinds.ps _<_ μ-object t) object.Pre
+
+abbrev under-at : ℕ → In 3 under-kinds.ps
+under-at t = and 3 under-kinds.ps (is 3 under-kinds.ps μ-under t) under.Pre
+
+abbrev under-below : ℕ → In 3 under-kinds.ps
+under-below t = and 3 under-kinds.ps (falls 3 under-kinds.ps _<_ μ-under t) under.Pre
 
 abbrev value-at : ℕ → In 3 value-kinds.ps
 value-at t = and 3 value-kinds.ps (is 3 value-kinds.ps μ-value t) value.Pre
@@ -97,10 +122,12 @@ array-claims t = (
   skip-reads.Learnt,
   peek-reads.Asked,
   peek-reads.Learnt,
-  list-mark-reads.Asked,
-  list-mark-reads.Learnt,
+  close-reads.Asked,
+  close-reads.Learnt,
   item-below t,
   item.Post,
+  behind-reads.Asked,
+  behind-reads.Learnt,
   refuse-reads.Asked,
   refuse-reads.Learnt,
 )
@@ -114,33 +141,16 @@ array-μ-loop text heads₀ marks₀ row at depth i₀ rows₀ children₀ heads
 module _ (t : ℕ) where
   -- behind the space after the opening byte
   array-opened : (c : array-lts.After-peek (array-claims t) (array-at t) array.Post array-Inv-loop array-μ-loop) →
-      let a = c .before .before .before .before .before .args in
-      Opened (a .text .now) (a .heads .now) (a .marks .now) (a .depth) (a .row) (a .at) (c .before .skip .result) (c .peek .result)
+      let a = c .before .before .before .before .before .args in Opened (a .text .now) (a .heads .now) (a .marks .now) (a .depth) (a .row) (a .at) (c .before .skip .result) (c .peek .result)
   array-opened c = let p = c .before .before .before .before .before .pre .1 in record { ready = p .0; opens = p .1; place = c .before .skip .ensures; byte = c .peek .ensures }
-
-  -- it closes what it opened
-  array-first-fits : (c : array-lts.Then1 (array-claims t) (array-at t) array.Post array-Inv-loop array-μ-loop) →
-      let a = c .before .before .before .before .before .before .args in ListFits 0 (a .at) (c .before .before .skip .result + 1) 0 1 (a .row) (length (a .marks .now))
-  array-first-fits c = array-empty-fits (array-opened (c .before)) (omega (arith, c .if1 .taken))
 
   -- with one more element
   array-turned : (c : array-lts.After-known-told2 (array-claims t) (array-at t) array.Post array-Inv-loop array-μ-loop) →
       let a = c .before .before .before .before .before .before .before .before .before .before .before .before .before .before .before .before .before .args in
       let v = c .before .before .before .before .before .before .before .item .last in
-      ElementTurn (a .text .now) (a .depth) (a .at) (a .row) (a .heads .now) (a .marks .now) (v .1 .0) (v .1 .1 .0)
-      (c .before .before .before .before .before .before .before .before .before .before .loop .rows) (c .before .before .before .before .before .before .before .before .before .before .loop .children) (c .before .before .before .before .before .before .before .before .before .before .loop .i) (c .before .end .given .0 .0) (c .before .end .given .0 .1 .0)
-  array-turned c = array-turn (c .before .before .before .before .before .before .before .before .before .before .loop .inv) (c .before .before .before .before .before .before .before .item .ensures) (c .before .before .before .before .before .before .before .item .kept .1 .0) (c .before .before .before .before .before .before .before .item .kept .1 .1 .0) (c .before .end .given .1)
-
-  -- a byte behind it lies in the text
-  array-inside : (c : array-lts.After-peek2 (array-claims t) (array-at t) array.Post array-Inv-loop array-μ-loop) →
-      0 < c .peek2 .result → c .before .skip2 .result < length (c .before .before .before .before .before .before .before .before .before .before .before .before .before .before .before .before .before .before .before .args .text .now)
-  array-inside c = turn-inside (array-turned (c .before .before) .turn) (c .before .skip2 .ensures) (c .peek2 .ensures)
-
-  -- the closing byte stands behind it
-  array-closing-fits : (c : array-lts.Then2 (array-claims t) (array-at t) array.Post array-Inv-loop array-μ-loop) →
-      let a = c .before .before .before .before .before .before .before .before .before .before .before .before .before .before .before .before .before .before .before .before .args in
-      ListFits 0 (a .at) (c .before .before .skip2 .result + 1) (c .before .before .before .before .before .before .before .before .before .before .before .before .before .loop .children + 1) (c .before .before .before .before .before .before .before .before .before .before .before .before .before .loop .rows + c .before .before .before .before .end .given .0 .1 .0) (a .row) (length (c .before .before .before .before .before .before .before .before .before .before .item .last .1 .1 .0))
-  array-closing-fits c = let d = array-turned (c .before .before .before) in turn-fits (d .turn) (c .before .before .skip2 .ensures) (c .before .peek2 .ensures) (d .kids) (omega (arith, c .if2 .taken))
+      let l = c .before .before .before .before .before .before .before .before .before .before .loop in
+      ElementTurn (a .text .now) (a .depth) (a .at) (a .row) (a .heads .now) (a .marks .now) (v .1 .0) (v .1 .1 .0) (l .rows) (l .children) (l .i) (c .before .end .given .0 .0) (c .before .end .given .0 .1 .0)
+  array-turned c = let v = c .before .before .before .before .before .before .before .item in array-turn (c .before .before .before .before .before .before .before .before .before .before .loop .inv) (v .ensures) (v .kept .1 .0) (v .kept .1 .1 .0) (c .before .end .given .1)
 
   -- the lengths are as they were
   array-lengths : (c : array-lts.After-known-told2 (array-claims t) (array-at t) array.Post array-Inv-loop array-μ-loop) →
@@ -158,26 +168,17 @@ module _ (t : ℕ) where
   array-peek-requires : array-lts.Need-peek-requires (array-claims t) (array-at t) array.Post array-Inv-loop array-μ-loop
   array-peek-requires c κs = tt
 
-  array-add-list-mark : array-lts.Need-add-list-mark (array-claims t) (array-at t) array.Post array-Inv-loop array-μ-loop
-  array-add-list-mark c = omega (arith, opened-inside (array-opened (c .before)) (omega (arith, c .if1 .taken)))
+  array-add-close : array-lts.Need-add-close (array-claims t) (array-at t) array.Post array-Inv-loop array-μ-loop
+  array-add-close c = omega (arith, array-empty-fits (array-opened (c .before .before)) (c .before .if1 .taken) .1)
 
-  array-list-mark-requires : array-lts.Need-list-mark-requires (array-claims t) (array-at t) array.Post array-Inv-loop array-μ-loop
-  array-list-mark-requires c κs = array-first-fits c .0
-
-  array-mul-marks : array-lts.Need-mul-marks (array-claims t) (array-at t) array.Post array-Inv-loop array-μ-loop
-  array-mul-marks c = omega (arith, array-first-fits (c .before) .1)
-
-  array-slice-write-marks : array-lts.Need-slice-write-marks (array-claims t) (array-at t) array.Post array-Inv-loop array-μ-loop
-  array-slice-write-marks c = array-first-fits (c .before) .1
-
-  array-add-t20 : array-lts.Need-add-t20 (array-claims t) (array-at t) array.Post array-Inv-loop array-μ-loop
-  array-add-t20 c = omega (arith, opened-inside (array-opened (c .before .before)) (omega (arith, c .before .if1 .taken)))
+  array-close-requires : array-lts.Need-close-requires (array-claims t) (array-at t) array.Post array-Inv-loop array-μ-loop
+  array-close-requires c κs = array-empty-fits (array-opened (c .before .before)) (c .before .if1 .taken)
 
   array-same-length : array-lts.Need-same-length (array-claims t) (array-at t) array.Post array-Inv-loop array-μ-loop
-  array-same-length c = simp length-set
+  array-same-length c = c .before .before .close .kept .0
 
   array-returns : array-lts.Need-returns (array-claims t) (array-at t) array.Post array-Inv-loop array-μ-loop
-  array-returns c = rw (c .list-mark .ensures) (array-empty (array-opened (c .before .before)) (c .before .if1 .taken))
+  array-returns c = rw (c .before .before .close .ensures .0, c .before .before .close .ensures .1) (array-empty (array-opened (c .before .before .before .before .before)) (c .before .before .before .before .if1 .taken))
 
   array-loop-holds : array-lts.Need-loop-holds (array-claims t) (array-at t) array.Post array-Inv-loop array-μ-loop
   array-loop-holds c = array-first (array-opened (c .before)) (c .if1 .left)
@@ -209,37 +210,37 @@ module _ (t : ℕ) where
   array-add-children : array-lts.Need-add-children (array-claims t) (array-at t) array.Post array-Inv-loop array-μ-loop
   array-add-children c = omega (arith, element-few (array-turned c), turn-takes (array-turned c .turn))
 
-  array-skip-requires-2 : array-lts.Need-skip-requires-2 (array-claims t) (array-at t) array.Post array-Inv-loop array-μ-loop
-  array-skip-requires-2 c κs = tt
+  array-behind-requires : array-lts.Need-behind-requires (array-claims t) (array-at t) array.Post array-Inv-loop array-μ-loop
+  array-behind-requires c κs = omega arith
 
-  array-peek-requires-2 : array-lts.Need-peek-requires-2 (array-claims t) (array-at t) array.Post array-Inv-loop array-μ-loop
-  array-peek-requires-2 c κs = tt
+  array-enum-known-e : array-lts.Need-enum-known-e (array-claims t) (array-at t) array.Post array-Inv-loop array-μ-loop
+  array-enum-known-e c = search needs
 
-  array-add-list-mark-2 : array-lts.Need-add-list-mark-2 (array-claims t) (array-at t) array.Post array-Inv-loop array-μ-loop
-  array-add-list-mark-2 c = omega (arith, array-inside (c .before) (omega (arith, c .if2 .taken)))
-
-  array-list-mark-requires-2 : array-lts.Need-list-mark-requires-2 (array-claims t) (array-at t) array.Post array-Inv-loop array-μ-loop
-  array-list-mark-requires-2 c κs = array-closing-fits c .0
-
-  array-mul-marks-2 : array-lts.Need-mul-marks-2 (array-claims t) (array-at t) array.Post array-Inv-loop array-μ-loop
-  array-mul-marks-2 c = omega (arith, array-closing-fits (c .before) .1)
-
-  array-slice-write-marks-2 : array-lts.Need-slice-write-marks-2 (array-claims t) (array-at t) array.Post array-Inv-loop array-μ-loop
-  array-slice-write-marks-2 c = array-closing-fits (c .before) .1
-
-  array-add-t31 : array-lts.Need-add-t31 (array-claims t) (array-at t) array.Post array-Inv-loop array-μ-loop
-  array-add-t31 c = omega (arith, array-inside (c .before .before) (omega (arith, c .before .if2 .taken)))
+  array-close-requires-2 : array-lts.Need-close-requires-2 (array-claims t) (array-at t) array.Post array-Inv-loop array-μ-loop
+  array-close-requires-2 c κs = let d = array-turned (c .before .before .before .before .before) in turn-fits (d .turn) (c .before .before .before .before .behind .ensures) (c .before .before .e .given .1) (d .kids)
 
   array-same-length-4 : array-lts.Need-same-length-4 (array-claims t) (array-at t) array.Post array-Inv-loop array-μ-loop
-  array-same-length-4 c = array-lengths (c .before .before .before .before) .0
+  array-same-length-4 c = array-lengths (c .before .before .before .before .before .before .before .before) .0
 
   array-same-length-5 : array-lts.Need-same-length-5 (array-claims t) (array-at t) array.Post array-Inv-loop array-μ-loop
-  array-same-length-5 c = rw length-set (array-lengths (c .before .before .before .before) .1)
+  array-same-length-5 c = c .before .before .close2 .kept .0 ∙ array-lengths (c .before .before .before .before .before .before .before .before) .1
 
   array-returns-3 : array-lts.Need-returns-3 (array-claims t) (array-at t) array.Post array-Inv-loop array-μ-loop
   array-returns-3 c =
-      let d = array-turned (c .before .before .before .before) in
-      rw (c .list-mark2 .ensures) (turn-close (d .turn) (c .before .before .before .skip2 .ensures) (c .before .before .peek2 .ensures) (d .kids) (omega (arith, c .before .if2 .taken)) (c .before .if2 .taken) (d .filled))
+      let d = array-turned (c .before .before .before .before .before .before .before .before) in
+      rw (c .before .before .close2 .ensures .0, c .before .before .close2 .ensures .1) (turn-close (d .turn) (c .before .before .before .before .before .before .before .behind .ensures) (c .before .before .before .before .before .e .given .1) (d .kids) (d .filled))
+
+  array-enum-known-next : array-lts.Need-enum-known-next (array-claims t) (array-at t) array.Post array-Inv-loop array-μ-loop
+  array-enum-known-next c = search needs
+
+  array-loop-less : array-lts.Need-loop-less (array-claims t) (array-at t) array.Post array-Inv-loop array-μ-loop
+  array-loop-less c = omega (arith, turn-on (array-turned (c .before .before .before .before) .turn) (c .before .before .before .behind .ensures) (c .before .next .given .1))
+
+  array-loop-again : array-lts.Need-loop-again (array-claims t) (array-at t) array.Post array-Inv-loop array-μ-loop
+  array-loop-again c = array-next (array-turned (c .before .before .before .before)) (c .before .before .before .behind .ensures) (c .before .next .given .1)
+
+  array-enum-known-j : array-lts.Need-enum-known-j (array-claims t) (array-at t) array.Post array-Inv-loop array-μ-loop
+  array-enum-known-j c = search needs
 
   array-refuse-requires : array-lts.Need-refuse-requires (array-claims t) (array-at t) array.Post array-Inv-loop array-μ-loop
   array-refuse-requires c κs = tt
@@ -251,19 +252,7 @@ module _ (t : ℕ) where
   array-same-length-7 c = array-lengths (c .before .before .before .before .before) .1
 
   array-returns-4 : array-lts.Need-returns-4 (array-claims t) (array-at t) array.Post array-Inv-loop array-μ-loop
-  array-returns-4 c = turn-bad (array-turned (c .before .before .before .before .before) .turn) (c .before .before .before .before .skip2 .ensures) (c .before .before .before .peek2 .ensures) (c .before .before .if2 .left) (c .before .if3 .taken) (c .refuse .ensures)
-
-  array-add-skip-2 : array-lts.Need-add-skip-2 (array-claims t) (array-at t) array.Post array-Inv-loop array-μ-loop
-  array-add-skip-2 c = omega (arith, array-inside (c .before .before) (omega (arith, c .if3 .left)))
-
-  array-skip-requires-3 : array-lts.Need-skip-requires-3 (array-claims t) (array-at t) array.Post array-Inv-loop array-μ-loop
-  array-skip-requires-3 c κs = tt
-
-  array-loop-less : array-lts.Need-loop-less (array-claims t) (array-at t) array.Post array-Inv-loop array-μ-loop
-  array-loop-less c = omega (arith, turn-on (array-turned (c .before .before .before .before .before) .turn) (c .before .before .before .before .skip2 .ensures) (c .before .before .before .peek2 .ensures) (c .before .if3 .left) (c .skip3 .ensures))
-
-  array-loop-again : array-lts.Need-loop-again (array-claims t) (array-at t) array.Post array-Inv-loop array-μ-loop
-  array-loop-again c = array-next (array-turned (c .before .before .before .before .before)) (c .before .before .before .before .skip2 .ensures) (c .before .before .before .peek2 .ensures) (c .before .if3 .left) (c .skip3 .ensures)
+  array-returns-4 c = turn-bad (array-turned (c .before .before .before .before .before) .turn) (c .before .before .before .before .behind .ensures) (c .before .before .j .given .1) (c .refuse .ensures)
 
 -- ---- item
 
@@ -322,8 +311,8 @@ member-claims t = (
   peek-reads.Learnt,
   refuse-reads.Asked,
   refuse-reads.Learnt,
-  item-below t,
-  item.Post,
+  under-below t,
+  under.Post,
 )
 
 module _ (t : ℕ) where
@@ -396,11 +385,11 @@ module _ (t : ℕ) where
   member-skip-requires-2 : member-lts.Need-skip-requires-2 (member-claims t) (member-at t) member.Post
   member-skip-requires-2 c κs = tt
 
-  member-add-item : member-lts.Need-add-item (member-claims t) (member-at t) member.Post
-  member-add-item c = let r = named-ready (member-named (c .before .before)) in omega (arith, r .rowed, r .inside)
+  member-add-under : member-lts.Need-add-under (member-claims t) (member-at t) member.Post
+  member-add-under c = let r = named-ready (member-named (c .before .before)) in omega (arith, r .rowed, r .inside)
 
-  member-item-requires : member-lts.Need-item-requires (member-claims t) (member-at t) member.Post
-  member-item-requires c κs = (omega arith, named-ready (member-named (c .before .before)))
+  member-under-requires : member-lts.Need-under-requires (member-claims t) (member-at t) member.Post
+  member-under-requires c κs = (omega arith, named-ready (member-named (c .before .before)))
 
   member-enum-known-code-2 : member-lts.Need-enum-known-code-2 (member-claims t) (member-at t) member.Post
   member-enum-known-code-2 c = search needs
@@ -409,7 +398,7 @@ module _ (t : ℕ) where
   member-enum-known-end c = search needs
 
   member-add-t38 : member-lts.Need-add-t38 (member-claims t) (member-at t) member.Post
-  member-add-t38 c = omega (arith, named-rows (member-named (c .before .before .before .before .before .before .before .before .before .before)) (c .before .before .before .before .before .before .before .item .ensures) (c .before .end .given .1))
+  member-add-t38 c = omega (arith, named-rows (member-named (c .before .before .before .before .before .before .before .before .before .before)) (c .before .before .before .before .before .before .before .under .ensures) (c .before .end .given .1))
 
   member-same-length-3 : member-lts.Need-same-length-3 (member-claims t) (member-at t) member.Post
   member-same-length-3 c = search needs
@@ -421,22 +410,162 @@ module _ (t : ℕ) where
   member-returns-2 c = told-unnamed (c .before .before .before .before .before .before .before .before .before .pre .1) (c .before .before .before .name .ensures) (c .before .code .given .1)
 
   member-same-length-5 : member-lts.Need-same-length-5 (member-claims t) (member-at t) member.Post
-  member-same-length-5 c = c .before .before .before .before .before .before .before .item .kept .1 .0 ∙ c .before .before .before .before .before .before .before .before .before .before .before .before .before .before .before .before .before .before .push .kept .0
+  member-same-length-5 c = c .before .before .before .before .before .before .before .under .kept .1 .0 ∙ c .before .before .before .before .before .before .before .before .before .before .before .before .before .before .before .before .before .before .push .kept .0
 
   member-same-length-6 : member-lts.Need-same-length-6 (member-claims t) (member-at t) member.Post
-  member-same-length-6 c = c .before .before .before .before .before .before .before .item .kept .1 .1 .0 ∙ c .before .before .before .before .before .before .before .before .before .before .before .before .before .before .before .before .before .before .push .kept .1 .0
+  member-same-length-6 c = c .before .before .before .before .before .before .before .under .kept .1 .1 .0 ∙ c .before .before .before .before .before .before .before .before .before .before .before .before .before .before .before .before .before .before .push .kept .1 .0
 
   member-returns-3 : member-lts.Need-returns-3 (member-claims t) (member-at t) member.Post
-  member-returns-3 c = told-valueless (member-named (c .before .before .before .before .before .before .before .before .before .before)) (c .before .before .before .before .before .before .before .item .ensures) (c .before .code2 .given .1)
+  member-returns-3 c = told-valueless (member-named (c .before .before .before .before .before .before .before .before .before .before)) (c .before .before .before .before .before .before .before .under .ensures) (c .before .code2 .given .1)
 
   member-same-length-7 : member-lts.Need-same-length-7 (member-claims t) (member-at t) member.Post
-  member-same-length-7 c = c .before .before .before .before .before .before .before .item .kept .1 .0 ∙ c .before .before .before .before .before .before .before .before .before .before .before .before .before .before .before .before .before .before .push .kept .0
+  member-same-length-7 c = c .before .before .before .before .before .before .before .under .kept .1 .0 ∙ c .before .before .before .before .before .before .before .before .before .before .before .before .before .before .before .before .before .before .push .kept .0
 
   member-same-length-8 : member-lts.Need-same-length-8 (member-claims t) (member-at t) member.Post
-  member-same-length-8 c = c .before .before .before .before .before .before .before .item .kept .1 .1 .0 ∙ c .before .before .before .before .before .before .before .before .before .before .before .before .before .before .before .before .before .before .push .kept .1 .0
+  member-same-length-8 c = c .before .before .before .before .before .before .before .under .kept .1 .1 .0 ∙ c .before .before .before .before .before .before .before .before .before .before .before .before .before .before .before .before .before .before .push .kept .1 .0
 
   member-returns-4 : member-lts.Need-returns-4 (member-claims t) (member-at t) member.Post
-  member-returns-4 c = told-member (member-named (c .before .before .before .before .before .before .before .before .before .before)) (c .before .before .before .before .before .before .before .item .ensures) (c .before .before .before .before .before .before .before .item .kept .1 .1 .0) (c .before .end .given .1)
+  member-returns-4 c = told-member (member-named (c .before .before .before .before .before .before .before .before .before .before)) (c .before .before .before .before .before .before .before .under .ensures) (c .before .before .before .before .before .before .before .under .kept .1 .1 .0) (c .before .end .given .1)
+
+-- ---- named_array
+
+abbrev named-array-claims : ℕ → named-array-lts.Claims
+named-array-claims t = (
+  skip-reads.Asked,
+  skip-reads.Learnt,
+  peek-reads.Asked,
+  peek-reads.Learnt,
+  close-reads.Asked,
+  close-reads.Learnt,
+  item-below t,
+  item.Post,
+  behind-reads.Asked,
+  behind-reads.Learnt,
+  refuse-reads.Asked,
+  refuse-reads.Learnt,
+)
+
+abbrev named-array-Inv-loop : named-array-lts.InvT-loop
+named-array-Inv-loop text heads₀ marks₀ row at depth i₀ rows₀ children₀ heads marks i rows children = InArray text depth at row heads₀ marks₀ heads marks rows children i
+
+abbrev named-array-μ-loop : named-array-lts.MeasureT-loop
+named-array-μ-loop text heads₀ marks₀ row at depth i₀ rows₀ children₀ heads marks i rows children = length text - i
+
+module _ (t : ℕ) where
+  -- behind the space after the opening byte
+  named-array-opened : (c : named-array-lts.After-peek (named-array-claims t) (named-array-at t) named-array.Post named-array-Inv-loop named-array-μ-loop) →
+      let a = c .before .before .before .before .before .args in Opened (a .text .now) (a .heads .now) (a .marks .now) (a .depth) (a .row) (a .at) (c .before .skip .result) (c .peek .result)
+  named-array-opened c = let p = c .before .before .before .before .before .pre .1 in record { ready = p .0; opens = p .1; place = c .before .skip .ensures; byte = c .peek .ensures }
+
+  -- with one more element
+  named-array-turned : (c : named-array-lts.After-known-told2 (named-array-claims t) (named-array-at t) named-array.Post named-array-Inv-loop named-array-μ-loop) →
+      let a = c .before .before .before .before .before .before .before .before .before .before .before .before .before .before .before .before .before .args in
+      let v = c .before .before .before .before .before .before .before .item .last in
+      let l = c .before .before .before .before .before .before .before .before .before .before .loop in
+      ElementTurn (a .text .now) (a .depth) (a .at) (a .row) (a .heads .now) (a .marks .now) (v .1 .0) (v .1 .1 .0) (l .rows) (l .children) (l .i) (c .before .end .given .0 .0) (c .before .end .given .0 .1 .0)
+  named-array-turned c = let v = c .before .before .before .before .before .before .before .item in array-turn (c .before .before .before .before .before .before .before .before .before .before .loop .inv) (v .ensures) (v .kept .1 .0) (v .kept .1 .1 .0) (c .before .end .given .1)
+
+  -- the lengths are as they were
+  named-array-lengths : (c : named-array-lts.After-known-told2 (named-array-claims t) (named-array-at t) named-array.Post named-array-Inv-loop named-array-μ-loop) →
+      let a = c .before .before .before .before .before .before .before .before .before .before .before .before .before .before .before .before .before .args in
+      let v = c .before .before .before .before .before .before .before .item .last in
+      (length (v .1 .0) ≡ length (a .heads .now)) × (length (v .1 .1 .0) ≡ length (a .marks .now))
+  named-array-lengths c = let d = named-array-turned c in (d .headed, d .turn .along .marked)
+
+  named-array-add-skip : named-array-lts.Need-add-skip (named-array-claims t) (named-array-at t) named-array.Post named-array-Inv-loop named-array-μ-loop
+  named-array-add-skip c = omega arith
+
+  named-array-skip-requires : named-array-lts.Need-skip-requires (named-array-claims t) (named-array-at t) named-array.Post named-array-Inv-loop named-array-μ-loop
+  named-array-skip-requires c κs = tt
+
+  named-array-peek-requires : named-array-lts.Need-peek-requires (named-array-claims t) (named-array-at t) named-array.Post named-array-Inv-loop named-array-μ-loop
+  named-array-peek-requires c κs = tt
+
+  named-array-add-close : named-array-lts.Need-add-close (named-array-claims t) (named-array-at t) named-array.Post named-array-Inv-loop named-array-μ-loop
+  named-array-add-close c = omega (arith, array-empty-fits (named-array-opened (c .before .before)) (c .before .if1 .taken) .1)
+
+  named-array-close-requires : named-array-lts.Need-close-requires (named-array-claims t) (named-array-at t) named-array.Post named-array-Inv-loop named-array-μ-loop
+  named-array-close-requires c κs = array-empty-fits (named-array-opened (c .before .before)) (c .before .if1 .taken)
+
+  named-array-same-length : named-array-lts.Need-same-length (named-array-claims t) (named-array-at t) named-array.Post named-array-Inv-loop named-array-μ-loop
+  named-array-same-length c = c .before .before .close .kept .0
+
+  named-array-returns : named-array-lts.Need-returns (named-array-claims t) (named-array-at t) named-array.Post named-array-Inv-loop named-array-μ-loop
+  named-array-returns c = rw (c .before .before .close .ensures .0, c .before .before .close .ensures .1) (array-empty (named-array-opened (c .before .before .before .before .before)) (c .before .before .before .before .if1 .taken))
+
+  named-array-loop-holds : named-array-lts.Need-loop-holds (named-array-claims t) (named-array-at t) named-array.Post named-array-Inv-loop named-array-μ-loop
+  named-array-loop-holds c = array-first (named-array-opened (c .before)) (c .if1 .left)
+
+  named-array-add-item : named-array-lts.Need-add-item (named-array-claims t) (named-array-at t) named-array.Post named-array-Inv-loop named-array-μ-loop
+  named-array-add-item c = let r = array-ready (c .before .before .loop .inv) in omega (arith, r .rowed, r .inside)
+
+  named-array-item-requires : named-array-lts.Need-item-requires (named-array-claims t) (named-array-at t) named-array.Post named-array-Inv-loop named-array-μ-loop
+  named-array-item-requires c κs = (omega arith, array-ready (c .before .before .loop .inv))
+
+  named-array-enum-known-code : named-array-lts.Need-enum-known-code (named-array-claims t) (named-array-at t) named-array.Post named-array-Inv-loop named-array-μ-loop
+  named-array-enum-known-code c = search needs
+
+  named-array-same-length-2 : named-array-lts.Need-same-length-2 (named-array-claims t) (named-array-at t) named-array.Post named-array-Inv-loop named-array-μ-loop
+  named-array-same-length-2 c = c .before .before .before .before .before .before .before .item .kept .1 .0 ∙ c .before .before .before .before .before .before .before .before .before .before .loop .inv .headed
+
+  named-array-same-length-3 : named-array-lts.Need-same-length-3 (named-array-claims t) (named-array-at t) named-array.Post named-array-Inv-loop named-array-μ-loop
+  named-array-same-length-3 c = c .before .before .before .before .before .before .before .item .kept .1 .1 .0 ∙ c .before .before .before .before .before .before .before .before .before .before .loop .inv .along .marked
+
+  named-array-returns-2 : named-array-lts.Need-returns-2 (named-array-claims t) (named-array-at t) named-array.Post named-array-Inv-loop named-array-μ-loop
+  named-array-returns-2 c = array-refused (c .before .before .before .before .before .before .before .before .before .before .loop .inv) (c .before .before .before .before .before .before .before .item .ensures) (c .before .code .given .1)
+
+  named-array-enum-known-end : named-array-lts.Need-enum-known-end (named-array-claims t) (named-array-at t) named-array.Post named-array-Inv-loop named-array-μ-loop
+  named-array-enum-known-end c = search needs
+
+  named-array-add-rows : named-array-lts.Need-add-rows (named-array-claims t) (named-array-at t) named-array.Post named-array-Inv-loop named-array-μ-loop
+  named-array-add-rows c = omega (arith, turn-takes (named-array-turned c .turn))
+
+  named-array-add-children : named-array-lts.Need-add-children (named-array-claims t) (named-array-at t) named-array.Post named-array-Inv-loop named-array-μ-loop
+  named-array-add-children c = omega (arith, element-few (named-array-turned c), turn-takes (named-array-turned c .turn))
+
+  named-array-behind-requires : named-array-lts.Need-behind-requires (named-array-claims t) (named-array-at t) named-array.Post named-array-Inv-loop named-array-μ-loop
+  named-array-behind-requires c κs = omega arith
+
+  named-array-enum-known-e : named-array-lts.Need-enum-known-e (named-array-claims t) (named-array-at t) named-array.Post named-array-Inv-loop named-array-μ-loop
+  named-array-enum-known-e c = search needs
+
+  named-array-close-requires-2 : named-array-lts.Need-close-requires-2 (named-array-claims t) (named-array-at t) named-array.Post named-array-Inv-loop named-array-μ-loop
+  named-array-close-requires-2 c κs = let d = named-array-turned (c .before .before .before .before .before) in turn-fits (d .turn) (c .before .before .before .before .behind .ensures) (c .before .before .e .given .1) (d .kids)
+
+  named-array-same-length-4 : named-array-lts.Need-same-length-4 (named-array-claims t) (named-array-at t) named-array.Post named-array-Inv-loop named-array-μ-loop
+  named-array-same-length-4 c = named-array-lengths (c .before .before .before .before .before .before .before .before) .0
+
+  named-array-same-length-5 : named-array-lts.Need-same-length-5 (named-array-claims t) (named-array-at t) named-array.Post named-array-Inv-loop named-array-μ-loop
+  named-array-same-length-5 c = c .before .before .close2 .kept .0 ∙ named-array-lengths (c .before .before .before .before .before .before .before .before) .1
+
+  named-array-returns-3 : named-array-lts.Need-returns-3 (named-array-claims t) (named-array-at t) named-array.Post named-array-Inv-loop named-array-μ-loop
+  named-array-returns-3 c =
+      let d = named-array-turned (c .before .before .before .before .before .before .before .before) in
+      rw (c .before .before .close2 .ensures .0, c .before .before .close2 .ensures .1) (turn-close (d .turn) (c .before .before .before .before .before .before .before .behind .ensures) (c .before .before .before .before .before .e .given .1) (d .kids) (d .filled))
+
+  named-array-enum-known-next : named-array-lts.Need-enum-known-next (named-array-claims t) (named-array-at t) named-array.Post named-array-Inv-loop named-array-μ-loop
+  named-array-enum-known-next c = search needs
+
+  named-array-loop-less : named-array-lts.Need-loop-less (named-array-claims t) (named-array-at t) named-array.Post named-array-Inv-loop named-array-μ-loop
+  named-array-loop-less c = omega (arith, turn-on (named-array-turned (c .before .before .before .before) .turn) (c .before .before .before .behind .ensures) (c .before .next .given .1))
+
+  named-array-loop-again : named-array-lts.Need-loop-again (named-array-claims t) (named-array-at t) named-array.Post named-array-Inv-loop named-array-μ-loop
+  named-array-loop-again c = array-next (named-array-turned (c .before .before .before .before)) (c .before .before .before .behind .ensures) (c .before .next .given .1)
+
+  named-array-enum-known-j : named-array-lts.Need-enum-known-j (named-array-claims t) (named-array-at t) named-array.Post named-array-Inv-loop named-array-μ-loop
+  named-array-enum-known-j c = search needs
+
+  named-array-refuse-requires : named-array-lts.Need-refuse-requires (named-array-claims t) (named-array-at t) named-array.Post named-array-Inv-loop named-array-μ-loop
+  named-array-refuse-requires c κs = tt
+
+  named-array-same-length-6 : named-array-lts.Need-same-length-6 (named-array-claims t) (named-array-at t) named-array.Post named-array-Inv-loop named-array-μ-loop
+  named-array-same-length-6 c = named-array-lengths (c .before .before .before .before .before) .0
+
+  named-array-same-length-7 : named-array-lts.Need-same-length-7 (named-array-claims t) (named-array-at t) named-array.Post named-array-Inv-loop named-array-μ-loop
+  named-array-same-length-7 c = named-array-lengths (c .before .before .before .before .before) .1
+
+  named-array-returns-4 : named-array-lts.Need-returns-4 (named-array-claims t) (named-array-at t) named-array.Post named-array-Inv-loop named-array-μ-loop
+  named-array-returns-4 c = turn-bad (named-array-turned (c .before .before .before .before .before) .turn) (c .before .before .before .before .behind .ensures) (c .before .before .j .given .1) (c .refuse .ensures)
 
 -- ---- object
 
@@ -446,10 +575,12 @@ object-claims t = (
   skip-reads.Learnt,
   peek-reads.Asked,
   peek-reads.Learnt,
-  list-mark-reads.Asked,
-  list-mark-reads.Learnt,
+  close-reads.Asked,
+  close-reads.Learnt,
   member-below t,
   member.Post,
+  behind-reads.Asked,
+  behind-reads.Learnt,
   refuse-reads.Asked,
   refuse-reads.Learnt,
 )
@@ -463,33 +594,16 @@ object-μ-loop text heads₀ marks₀ row at depth i₀ rows₀ children₀ head
 module _ (t : ℕ) where
   -- behind the space after the opening byte
   object-opened : (c : object-lts.After-peek (object-claims t) (object-at t) object.Post object-Inv-loop object-μ-loop) →
-      let a = c .before .before .before .before .before .args in
-      Opened (a .text .now) (a .heads .now) (a .marks .now) (a .depth) (a .row) (a .at) (c .before .skip .result) (c .peek .result)
+      let a = c .before .before .before .before .before .args in Opened (a .text .now) (a .heads .now) (a .marks .now) (a .depth) (a .row) (a .at) (c .before .skip .result) (c .peek .result)
   object-opened c = let p = c .before .before .before .before .before .pre .1 in record { ready = p .0; opens = p .1; place = c .before .skip .ensures; byte = c .peek .ensures }
-
-  -- it closes what it opened
-  object-first-fits : (c : object-lts.Then1 (object-claims t) (object-at t) object.Post object-Inv-loop object-μ-loop) →
-      let a = c .before .before .before .before .before .before .args in ListFits 1 (a .at) (c .before .before .skip .result + 1) 0 1 (a .row) (length (a .marks .now))
-  object-first-fits c = object-empty-fits (object-opened (c .before)) (omega (arith, c .if1 .taken))
 
   -- with one more member
   object-turned : (c : object-lts.After-known-told2 (object-claims t) (object-at t) object.Post object-Inv-loop object-μ-loop) →
       let a = c .before .before .before .before .before .before .before .before .before .before .before .before .before .before .before .before .before .args in
       let v = c .before .before .before .before .before .before .before .member .last in
-      MemberTurn (a .text .now) (a .depth) (a .at) (a .row) (a .heads .now) (a .marks .now) (v .1 .0) (v .1 .1 .0)
-      (c .before .before .before .before .before .before .before .before .before .before .loop .rows) (c .before .before .before .before .before .before .before .before .before .before .loop .children) (c .before .before .before .before .before .before .before .before .before .before .loop .i) (c .before .end .given .0 .0) (c .before .end .given .0 .1 .0)
-  object-turned c = object-turn (c .before .before .before .before .before .before .before .before .before .before .loop .inv) (c .before .before .before .before .before .before .before .member .ensures) (c .before .before .before .before .before .before .before .member .kept .1 .0) (c .before .before .before .before .before .before .before .member .kept .1 .1 .0) (c .before .end .given .1)
-
-  -- a byte behind it lies in the text
-  object-inside : (c : object-lts.After-peek2 (object-claims t) (object-at t) object.Post object-Inv-loop object-μ-loop) →
-      0 < c .peek2 .result → c .before .skip2 .result < length (c .before .before .before .before .before .before .before .before .before .before .before .before .before .before .before .before .before .before .before .args .text .now)
-  object-inside c = turn-inside (object-turned (c .before .before) .turn) (c .before .skip2 .ensures) (c .peek2 .ensures)
-
-  -- the closing byte stands behind it
-  object-closing-fits : (c : object-lts.Then2 (object-claims t) (object-at t) object.Post object-Inv-loop object-μ-loop) →
-      let a = c .before .before .before .before .before .before .before .before .before .before .before .before .before .before .before .before .before .before .before .before .args in
-      ListFits 1 (a .at) (c .before .before .skip2 .result + 1) (c .before .before .before .before .before .before .before .before .before .before .before .before .before .loop .children + 1) (c .before .before .before .before .before .before .before .before .before .before .before .before .before .loop .rows + c .before .before .before .before .end .given .0 .1 .0) (a .row) (length (c .before .before .before .before .before .before .before .before .before .before .member .last .1 .1 .0))
-  object-closing-fits c = let d = object-turned (c .before .before .before) in turn-fits (d .turn) (c .before .before .skip2 .ensures) (c .before .peek2 .ensures) (d .kids) (omega (arith, c .if2 .taken))
+      let l = c .before .before .before .before .before .before .before .before .before .before .loop in
+      MemberTurn (a .text .now) (a .depth) (a .at) (a .row) (a .heads .now) (a .marks .now) (v .1 .0) (v .1 .1 .0) (l .rows) (l .children) (l .i) (c .before .end .given .0 .0) (c .before .end .given .0 .1 .0)
+  object-turned c = let v = c .before .before .before .before .before .before .before .member in object-turn (c .before .before .before .before .before .before .before .before .before .before .loop .inv) (v .ensures) (v .kept .1 .0) (v .kept .1 .1 .0) (c .before .end .given .1)
 
   -- the lengths are as they were
   object-lengths : (c : object-lts.After-known-told2 (object-claims t) (object-at t) object.Post object-Inv-loop object-μ-loop) →
@@ -507,26 +621,17 @@ module _ (t : ℕ) where
   object-peek-requires : object-lts.Need-peek-requires (object-claims t) (object-at t) object.Post object-Inv-loop object-μ-loop
   object-peek-requires c κs = tt
 
-  object-add-list-mark : object-lts.Need-add-list-mark (object-claims t) (object-at t) object.Post object-Inv-loop object-μ-loop
-  object-add-list-mark c = omega (arith, opened-inside (object-opened (c .before)) (omega (arith, c .if1 .taken)))
+  object-add-close : object-lts.Need-add-close (object-claims t) (object-at t) object.Post object-Inv-loop object-μ-loop
+  object-add-close c = omega (arith, object-empty-fits (object-opened (c .before .before)) (c .before .if1 .taken) .1)
 
-  object-list-mark-requires : object-lts.Need-list-mark-requires (object-claims t) (object-at t) object.Post object-Inv-loop object-μ-loop
-  object-list-mark-requires c κs = object-first-fits c .0
-
-  object-mul-marks : object-lts.Need-mul-marks (object-claims t) (object-at t) object.Post object-Inv-loop object-μ-loop
-  object-mul-marks c = omega (arith, object-first-fits (c .before) .1)
-
-  object-slice-write-marks : object-lts.Need-slice-write-marks (object-claims t) (object-at t) object.Post object-Inv-loop object-μ-loop
-  object-slice-write-marks c = object-first-fits (c .before) .1
-
-  object-add-t20 : object-lts.Need-add-t20 (object-claims t) (object-at t) object.Post object-Inv-loop object-μ-loop
-  object-add-t20 c = omega (arith, opened-inside (object-opened (c .before .before)) (omega (arith, c .before .if1 .taken)))
+  object-close-requires : object-lts.Need-close-requires (object-claims t) (object-at t) object.Post object-Inv-loop object-μ-loop
+  object-close-requires c κs = object-empty-fits (object-opened (c .before .before)) (c .before .if1 .taken)
 
   object-same-length : object-lts.Need-same-length (object-claims t) (object-at t) object.Post object-Inv-loop object-μ-loop
-  object-same-length c = simp length-set
+  object-same-length c = c .before .before .close .kept .0
 
   object-returns : object-lts.Need-returns (object-claims t) (object-at t) object.Post object-Inv-loop object-μ-loop
-  object-returns c = rw (c .list-mark .ensures) (object-empty (object-opened (c .before .before)) (c .before .if1 .taken))
+  object-returns c = rw (c .before .before .close .ensures .0, c .before .before .close .ensures .1) (object-empty (object-opened (c .before .before .before .before .before)) (c .before .before .before .before .if1 .taken))
 
   object-loop-holds : object-lts.Need-loop-holds (object-claims t) (object-at t) object.Post object-Inv-loop object-μ-loop
   object-loop-holds c = object-first (object-opened (c .before)) (c .if1 .left)
@@ -558,37 +663,37 @@ module _ (t : ℕ) where
   object-add-children : object-lts.Need-add-children (object-claims t) (object-at t) object.Post object-Inv-loop object-μ-loop
   object-add-children c = omega (arith, member-few (object-turned c), turn-takes (object-turned c .turn))
 
-  object-skip-requires-2 : object-lts.Need-skip-requires-2 (object-claims t) (object-at t) object.Post object-Inv-loop object-μ-loop
-  object-skip-requires-2 c κs = tt
+  object-behind-requires : object-lts.Need-behind-requires (object-claims t) (object-at t) object.Post object-Inv-loop object-μ-loop
+  object-behind-requires c κs = omega arith
 
-  object-peek-requires-2 : object-lts.Need-peek-requires-2 (object-claims t) (object-at t) object.Post object-Inv-loop object-μ-loop
-  object-peek-requires-2 c κs = tt
+  object-enum-known-e : object-lts.Need-enum-known-e (object-claims t) (object-at t) object.Post object-Inv-loop object-μ-loop
+  object-enum-known-e c = search needs
 
-  object-add-list-mark-2 : object-lts.Need-add-list-mark-2 (object-claims t) (object-at t) object.Post object-Inv-loop object-μ-loop
-  object-add-list-mark-2 c = omega (arith, object-inside (c .before) (omega (arith, c .if2 .taken)))
-
-  object-list-mark-requires-2 : object-lts.Need-list-mark-requires-2 (object-claims t) (object-at t) object.Post object-Inv-loop object-μ-loop
-  object-list-mark-requires-2 c κs = object-closing-fits c .0
-
-  object-mul-marks-2 : object-lts.Need-mul-marks-2 (object-claims t) (object-at t) object.Post object-Inv-loop object-μ-loop
-  object-mul-marks-2 c = omega (arith, object-closing-fits (c .before) .1)
-
-  object-slice-write-marks-2 : object-lts.Need-slice-write-marks-2 (object-claims t) (object-at t) object.Post object-Inv-loop object-μ-loop
-  object-slice-write-marks-2 c = object-closing-fits (c .before) .1
-
-  object-add-t31 : object-lts.Need-add-t31 (object-claims t) (object-at t) object.Post object-Inv-loop object-μ-loop
-  object-add-t31 c = omega (arith, object-inside (c .before .before) (omega (arith, c .before .if2 .taken)))
+  object-close-requires-2 : object-lts.Need-close-requires-2 (object-claims t) (object-at t) object.Post object-Inv-loop object-μ-loop
+  object-close-requires-2 c κs = let d = object-turned (c .before .before .before .before .before) in turn-fits (d .turn) (c .before .before .before .before .behind .ensures) (c .before .before .e .given .1) (d .kids)
 
   object-same-length-4 : object-lts.Need-same-length-4 (object-claims t) (object-at t) object.Post object-Inv-loop object-μ-loop
-  object-same-length-4 c = object-lengths (c .before .before .before .before) .0
+  object-same-length-4 c = object-lengths (c .before .before .before .before .before .before .before .before) .0
 
   object-same-length-5 : object-lts.Need-same-length-5 (object-claims t) (object-at t) object.Post object-Inv-loop object-μ-loop
-  object-same-length-5 c = rw length-set (object-lengths (c .before .before .before .before) .1)
+  object-same-length-5 c = c .before .before .close2 .kept .0 ∙ object-lengths (c .before .before .before .before .before .before .before .before) .1
 
   object-returns-3 : object-lts.Need-returns-3 (object-claims t) (object-at t) object.Post object-Inv-loop object-μ-loop
   object-returns-3 c =
-      let d = object-turned (c .before .before .before .before) in
-      rw (c .list-mark2 .ensures) (turn-close (d .turn) (c .before .before .before .skip2 .ensures) (c .before .before .peek2 .ensures) (d .kids) (omega (arith, c .before .if2 .taken)) (c .before .if2 .taken) (d .filled))
+      let d = object-turned (c .before .before .before .before .before .before .before .before) in
+      rw (c .before .before .close2 .ensures .0, c .before .before .close2 .ensures .1) (turn-close (d .turn) (c .before .before .before .before .before .before .before .behind .ensures) (c .before .before .before .before .before .e .given .1) (d .kids) (d .filled))
+
+  object-enum-known-next : object-lts.Need-enum-known-next (object-claims t) (object-at t) object.Post object-Inv-loop object-μ-loop
+  object-enum-known-next c = search needs
+
+  object-loop-less : object-lts.Need-loop-less (object-claims t) (object-at t) object.Post object-Inv-loop object-μ-loop
+  object-loop-less c = omega (arith, turn-on (object-turned (c .before .before .before .before) .turn) (c .before .before .before .behind .ensures) (c .before .next .given .1))
+
+  object-loop-again : object-lts.Need-loop-again (object-claims t) (object-at t) object.Post object-Inv-loop object-μ-loop
+  object-loop-again c = object-next (object-turned (c .before .before .before .before)) (c .before .before .before .behind .ensures) (c .before .next .given .1)
+
+  object-enum-known-j : object-lts.Need-enum-known-j (object-claims t) (object-at t) object.Post object-Inv-loop object-μ-loop
+  object-enum-known-j c = search needs
 
   object-refuse-requires : object-lts.Need-refuse-requires (object-claims t) (object-at t) object.Post object-Inv-loop object-μ-loop
   object-refuse-requires c κs = tt
@@ -600,19 +705,53 @@ module _ (t : ℕ) where
   object-same-length-7 c = object-lengths (c .before .before .before .before .before) .1
 
   object-returns-4 : object-lts.Need-returns-4 (object-claims t) (object-at t) object.Post object-Inv-loop object-μ-loop
-  object-returns-4 c = turn-bad (object-turned (c .before .before .before .before .before) .turn) (c .before .before .before .before .skip2 .ensures) (c .before .before .before .peek2 .ensures) (c .before .before .if2 .left) (c .before .if3 .taken) (c .refuse .ensures)
+  object-returns-4 c = turn-bad (object-turned (c .before .before .before .before .before) .turn) (c .before .before .before .before .behind .ensures) (c .before .before .j .given .1) (c .refuse .ensures)
 
-  object-add-skip-2 : object-lts.Need-add-skip-2 (object-claims t) (object-at t) object.Post object-Inv-loop object-μ-loop
-  object-add-skip-2 c = omega (arith, object-inside (c .before .before) (omega (arith, c .if3 .left)))
+-- ---- under
 
-  object-skip-requires-3 : object-lts.Need-skip-requires-3 (object-claims t) (object-at t) object.Post object-Inv-loop object-μ-loop
-  object-skip-requires-3 c κs = tt
+abbrev under-claims : ℕ → under-lts.Claims
+under-claims t = (
+  peek-reads.Asked,
+  peek-reads.Learnt,
+  named-array-below t,
+  named-array.Post,
+  item-below t,
+  item.Post,
+)
 
-  object-loop-less : object-lts.Need-loop-less (object-claims t) (object-at t) object.Post object-Inv-loop object-μ-loop
-  object-loop-less c = omega (arith, turn-on (object-turned (c .before .before .before .before .before) .turn) (c .before .before .before .before .skip2 .ensures) (c .before .before .before .peek2 .ensures) (c .before .if3 .left) (c .skip3 .ensures))
+module _ (t : ℕ) where
+  under-peek-requires : under-lts.Need-peek-requires (under-claims t) (under-at t) under.Post
+  under-peek-requires c κs = tt
 
-  object-loop-again : object-lts.Need-loop-again (object-claims t) (object-at t) object.Post object-Inv-loop object-μ-loop
-  object-loop-again c = object-next (object-turned (c .before .before .before .before .before)) (c .before .before .before .before .skip2 .ensures) (c .before .before .before .peek2 .ensures) (c .before .if3 .left) (c .skip3 .ensures)
+  under-returns : under-lts.Need-returns (under-claims t) (under-at t) under.Post
+  under-returns c = bracket-deep (c .before .before .before .before .before .before .pre .1) (c .before .before .peek .ensures) (c .before .if1 .taken) (c .if2 .taken)
+
+  under-sub-named-array : under-lts.Need-sub-named-array (under-claims t) (under-at t) under.Post
+  under-sub-named-array c = omega (arith, c .before .before .if2 .left)
+
+  under-named-array-requires : under-lts.Need-named-array-requires (under-claims t) (under-at t) under.Post
+  under-named-array-requires c κs = let n = c .before .before .if2 .left in (omega (arith, n), bracket-ready (c .before .before .before .before .before .before .before .before .pre .1) (c .before .before .before .before .peek .ensures) (c .before .before .before .if1 .taken) n)
+
+  under-same-length : under-lts.Need-same-length (under-claims t) (under-at t) under.Post
+  under-same-length c = c .before .before .before .before .named-array .kept .1 .0
+
+  under-same-length-2 : under-lts.Need-same-length-2 (under-claims t) (under-at t) under.Post
+  under-same-length-2 c = c .before .before .before .before .named-array .kept .1 .1 .0
+
+  under-returns-2 : under-lts.Need-returns-2 (under-claims t) (under-at t) under.Post
+  under-returns-2 c = told-bracket (c .before .before .before .before .before .before .before .before .before .before .before .before .before .pre .1) (c .before .before .before .before .before .before .before .before .before .peek .ensures) (c .before .before .before .before .before .before .before .before .if1 .taken) (c .before .before .before .before .before .before .before .if2 .left) (c .before .before .before .before .named-array .ensures)
+
+  under-item-requires : under-lts.Need-item-requires (under-claims t) (under-at t) under.Post
+  under-item-requires c κs = (omega arith, c .before .before .before .before .before .before .before .pre .1)
+
+  under-same-length-3 : under-lts.Need-same-length-3 (under-claims t) (under-at t) under.Post
+  under-same-length-3 c = c .before .before .before .before .item .kept .1 .0
+
+  under-same-length-4 : under-lts.Need-same-length-4 (under-claims t) (under-at t) under.Post
+  under-same-length-4 c = c .before .before .before .before .item .kept .1 .1 .0
+
+  under-returns-3 : under-lts.Need-returns-3 (under-claims t) (under-at t) under.Post
+  under-returns-3 c = c .before .before .before .before .item .ensures
 
 -- ---- value
 
@@ -695,8 +834,8 @@ module _ (t : ℕ) where
   value-returns-5 : value-lts.Need-returns-5 (value-claims t) (value-at t) value.Post
   value-returns-5 c = told-leaf _ (c .before .before .before .before .before .before .before .before .before .before .pre .1) (value-begun (c .before .before .before .before .before)) (c .before .before .before .before .match .keys3) (c .before .before .leaf .ensures)
 
-pub +array+item+member+object+value-spec : {M : Type 1} → statement M
-+array+item+member+object+value-spec = close μ-array μ-item μ-member μ-object μ-value
+pub +array+item+member+named-array+object+under+value-spec : {M : Type 1} → statement M
++array+item+member+named-array+object+under+value-spec = close μ-array μ-item μ-member μ-named-array μ-object μ-under μ-value
     (λ t. array-lts.spec (array-claims t) (array-at t)
     array.Post
     array-Inv-loop
@@ -704,11 +843,8 @@ pub +array+item+member+object+value-spec : {M : Type 1} → statement M
     (array-add-skip t)
     (array-skip-requires t)
     (array-peek-requires t)
-    (array-add-list-mark t)
-    (array-list-mark-requires t)
-    (array-mul-marks t)
-    (array-slice-write-marks t)
-    (array-add-t20 t)
+    (array-add-close t)
+    (array-close-requires t)
     (array-same-length t)
     (array-returns t)
     (array-loop-holds t)
@@ -721,24 +857,20 @@ pub +array+item+member+object+value-spec : {M : Type 1} → statement M
     (array-enum-known-end t)
     (array-add-rows t)
     (array-add-children t)
-    (array-skip-requires-2 t)
-    (array-peek-requires-2 t)
-    (array-add-list-mark-2 t)
-    (array-list-mark-requires-2 t)
-    (array-mul-marks-2 t)
-    (array-slice-write-marks-2 t)
-    (array-add-t31 t)
+    (array-behind-requires t)
+    (array-enum-known-e t)
+    (array-close-requires-2 t)
     (array-same-length-4 t)
     (array-same-length-5 t)
     (array-returns-3 t)
+    (array-enum-known-next t)
+    (array-loop-less t)
+    (array-loop-again t)
+    (array-enum-known-j t)
     (array-refuse-requires t)
     (array-same-length-6 t)
     (array-same-length-7 t)
-    (array-returns-4 t)
-    (array-add-skip-2 t)
-    (array-skip-requires-3 t)
-    (array-loop-less t)
-    (array-loop-again t))
+    (array-returns-4 t))
     (λ t. item-lts.spec (item-claims t) (item-at t)
     item.Post
     (item-whole-end-requires t)
@@ -765,8 +897,8 @@ pub +array+item+member+object+value-spec : {M : Type 1} → statement M
     (member-returns t)
     (member-add-skip t)
     (member-skip-requires-2 t)
-    (member-add-item t)
-    (member-item-requires t)
+    (member-add-under t)
+    (member-under-requires t)
     (member-enum-known-code-2 t)
     (member-enum-known-end t)
     (member-add-t38 t)
@@ -779,6 +911,41 @@ pub +array+item+member+object+value-spec : {M : Type 1} → statement M
     (member-same-length-7 t)
     (member-same-length-8 t)
     (member-returns-4 t))
+    (λ t. named-array-lts.spec (named-array-claims t) (named-array-at t)
+    named-array.Post
+    named-array-Inv-loop
+    named-array-μ-loop
+    (named-array-add-skip t)
+    (named-array-skip-requires t)
+    (named-array-peek-requires t)
+    (named-array-add-close t)
+    (named-array-close-requires t)
+    (named-array-same-length t)
+    (named-array-returns t)
+    (named-array-loop-holds t)
+    (named-array-add-item t)
+    (named-array-item-requires t)
+    (named-array-enum-known-code t)
+    (named-array-same-length-2 t)
+    (named-array-same-length-3 t)
+    (named-array-returns-2 t)
+    (named-array-enum-known-end t)
+    (named-array-add-rows t)
+    (named-array-add-children t)
+    (named-array-behind-requires t)
+    (named-array-enum-known-e t)
+    (named-array-close-requires-2 t)
+    (named-array-same-length-4 t)
+    (named-array-same-length-5 t)
+    (named-array-returns-3 t)
+    (named-array-enum-known-next t)
+    (named-array-loop-less t)
+    (named-array-loop-again t)
+    (named-array-enum-known-j t)
+    (named-array-refuse-requires t)
+    (named-array-same-length-6 t)
+    (named-array-same-length-7 t)
+    (named-array-returns-4 t))
     (λ t. object-lts.spec (object-claims t) (object-at t)
     object.Post
     object-Inv-loop
@@ -786,11 +953,8 @@ pub +array+item+member+object+value-spec : {M : Type 1} → statement M
     (object-add-skip t)
     (object-skip-requires t)
     (object-peek-requires t)
-    (object-add-list-mark t)
-    (object-list-mark-requires t)
-    (object-mul-marks t)
-    (object-slice-write-marks t)
-    (object-add-t20 t)
+    (object-add-close t)
+    (object-close-requires t)
     (object-same-length t)
     (object-returns t)
     (object-loop-holds t)
@@ -803,24 +967,33 @@ pub +array+item+member+object+value-spec : {M : Type 1} → statement M
     (object-enum-known-end t)
     (object-add-rows t)
     (object-add-children t)
-    (object-skip-requires-2 t)
-    (object-peek-requires-2 t)
-    (object-add-list-mark-2 t)
-    (object-list-mark-requires-2 t)
-    (object-mul-marks-2 t)
-    (object-slice-write-marks-2 t)
-    (object-add-t31 t)
+    (object-behind-requires t)
+    (object-enum-known-e t)
+    (object-close-requires-2 t)
     (object-same-length-4 t)
     (object-same-length-5 t)
     (object-returns-3 t)
+    (object-enum-known-next t)
+    (object-loop-less t)
+    (object-loop-again t)
+    (object-enum-known-j t)
     (object-refuse-requires t)
     (object-same-length-6 t)
     (object-same-length-7 t)
-    (object-returns-4 t)
-    (object-add-skip-2 t)
-    (object-skip-requires-3 t)
-    (object-loop-less t)
-    (object-loop-again t))
+    (object-returns-4 t))
+    (λ t. under-lts.spec (under-claims t) (under-at t)
+    under.Post
+    (under-peek-requires t)
+    (under-returns t)
+    (under-sub-named-array t)
+    (under-named-array-requires t)
+    (under-same-length t)
+    (under-same-length-2 t)
+    (under-returns-2 t)
+    (under-item-requires t)
+    (under-same-length-3 t)
+    (under-same-length-4 t)
+    (under-returns-3 t))
     λ t. value-lts.spec (value-claims t) (value-at t)
     value.Post
     (value-peek-requires t)
