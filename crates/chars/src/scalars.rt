@@ -91,7 +91,7 @@ pub fn whole_end(text: &[u8], at: usize) -> usize
 {
     match peek(text, at) {
         b'1'..=b'9' => {
-            let end = digits(text, at);
+            let end = digits(text, at + 1);
             match peek(text, end) {
                 b'.' => at,
                 b'E' => at,

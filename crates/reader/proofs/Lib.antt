@@ -15,6 +15,7 @@ pub mod Owners
 pub mod Indexes
 pub mod Searches
 pub mod Leaves
+pub mod Following
 pub mod Scans
 pub mod Theorems
 pub mod Whole

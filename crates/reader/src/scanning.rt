@@ -13,9 +13,10 @@ use chars::skip;
 use chars::whole_end;
 ghost use mathlib.Core.Path.{_≡_};
 ghost use Prim.Native.Nat.{_+_, _<_};
+ghost use mathlib.Core.Bool.{false};
 ghost use lib.ListN.{length, set};
 ghost use Rattle.chars.specs.Parse.{unexpected};
-ghost use Rattle.chars.specs.Space.{skip as skipped};
+ghost use Rattle.chars.specs.Space.{isSpace, skip as skipped};
 ghost use Rattle.reader.specs.Grammar.{leafAt, valueAt, arrayAt, objectAt};
 ghost use Rattle.reader.specs.Marks.{listMark};
 ghost use Rattle.reader.specs.Passes.{scanOf, LeafReady, LeafTold, ListFits, Follows, Ready, Told, MemberReady, MemberTold};
@@ -56,28 +57,50 @@ fn leaf(text: &[u8], marks: &mut [u64], row: usize, at: usize) -> Scanned
 }
 
 // What stands behind an item and the space after it: the closing byte, a comma with the next item behind it, or neither.
-enum Following {
+pub enum Following {
     Closing { end: usize },
     Item { at: usize },
     Other { at: usize },
 }
 
-// The same of an item that ends at a place.
-fn behind(text: &[u8], end: usize, closing: u8) -> Following
+// The same by the byte at a place.
+fn follows(text: &[u8], at: usize, closing: u8) -> Following
     requires { ⌜ 0 < closing ⌝ }
-    ensures { λ r. ⌜ Follows closing (now (text .entry)) (skipped (now (text .entry)) end) r ⌝ }
+    ensures { λ r. ⌜ Follows closing (now (text .entry)) at r ⌝ }
 {
-    let j = skip(text, end);
-    let b = peek(text, j);
+    let b = peek(text, at);
     if b == closing {
-        return Following::Closing { end: j + 1 };
+        return Following::Closing { end: at + 1 };
     }
     if b != b',' {
-        return Following::Other { at: j };
+        return Following::Other { at };
     }
     Following::Item {
-        at: skip(text, j + 1),
+        at: skip(text, at + 1),
     }
+}
+
+// The same behind an item that ends at a place. Most have no space after them.
+fn behind(text: &[u8], end: usize, closing: u8) -> Following
+    requires { ⌜ (0 < closing) × (isSpace closing ≡ false) ⌝ }
+    ensures { λ r. ⌜ Follows closing (now (text .entry)) (skipped (now (text .entry)) end) r ⌝ }
+{
+    let r = follows(text, end, closing);
+    match r {
+        Following::Other { at } => follows(text, skip(text, at), closing),
+        _ => r,
+    }
+}
+
+// As `skip`, and at once where the byte `sign`, which is no space, stands already.
+fn skip_to(text: &[u8], at: usize, sign: u8) -> usize
+    requires { ⌜ isSpace sign ≡ false ⌝ }
+    ensures { λ r. ⌜ r ≡ skipped (now (text .entry)) at ⌝ }
+{
+    if peek(text, at) == sign {
+        return at;
+    }
+    skip(text, at)
 }
 
 // Keeps the row of an array, of which `object` is 0, or of an object, of which it is 1.
@@ -270,7 +293,7 @@ fn member(
         Hashed::Broken { code, place } => Scanned::Refused { code, place },
         Hashed::Name { end: e, hash } => {
             push(heads, marks, row, at, e, hash as usize);
-            let j = skip(text, e);
+            let j = skip_to(text, e, b':');
             if peek(text, j) != b':' {
                 return refuse(text, j);
             }

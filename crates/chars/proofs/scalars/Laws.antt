@@ -169,7 +169,7 @@ characters-text s = scalars-text (characters s) (scalars s 0)
 -- a number of digits alone that begins with no 0
 module _ (s : List ℕ) (i : ℕ) (l : 0x31 ≤ byteAt s i) (m : byteAt s i ≤ 0x39) where
   abbrev ending : ℕ
-  ending = digitsEnd s i
+  ending = digitsEnd s (i + 1)
 
   is-digit : isDigit (byteAt s i) ≡ true
   is-digit = rw (le-leb 0x30 (byteAt s i) (omega arith), le-leb (byteAt s i) 0x39 m)
@@ -179,8 +179,12 @@ module _ (s : List ℕ) (i : ℕ) (l : 0x31 ≤ byteAt s i) (m : byteAt s i ≤ 
   number-begins =
       rw (ne-eqb (byteAt s i) 0x22 (λ q. omega arith), ne-eqb (byteAt s i) 0x5B (λ q. omega arith), ne-eqb (byteAt s i) 0x7B (λ q. omega arith), is-digit)
 
+  -- the digits behind the first end where all of them do
+  all-digits : digitsEnd s i ≡ ending
+  all-digits = run-next isDigit s i (in-text s i (omega arith)) is-digit
+
   goes-on : i < ending
-  goes-on = omega (arith, run-next isDigit s i (in-text s i (omega arith)) is-digit, run-from isDigit s (i + 1))
+  goes-on = omega (arith, run-from isDigit s (i + 1))
 
   pub whole-read : (byteAt s ending ≡ 0x2E → ⊥) → (byteAt s ending ≡ 0x45 → ⊥) → (byteAt s ending ≡ 0x65 → ⊥)
       → (firstOf (byteAt s i) ≡ Number) × (scalarAt s i ≡ parsed Whole ending)
@@ -191,6 +195,7 @@ module _ (s : List ℕ) (i : ℕ) (l : 0x31 ≤ byteAt s i) (m : byteAt s i ≤ 
       number-begins,
       ne-eqb (byteAt s i) 0x2D (λ q. omega arith),
       ne-eqb (byteAt s i) 0x30 (λ q. omega arith),
+      all-digits,
       ne-eqb ending i (λ q. omega (arith, goes-on)),
       ne-eqb (byteAt s ending) 0x2E a,
       ne-eqb (byteAt s ending) 0x45 b,

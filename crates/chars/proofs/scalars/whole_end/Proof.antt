@@ -2,17 +2,23 @@
 use mathlib.Core.Path.{_≡_, refl, ap, _∙_}
 use mathlib.Core.Logic.{inl, inr}
 use mathlib.Core.List.{List}
-use Prim.Native.Nat.{ℕ}
+use Prim.Native.Nat.{ℕ, _+_}
 use native.Mathlib.Omega.{arith}
 use borrow.Author.Needs.{needs}
 use Rattle.chars.specs.Bytes.{byteAt}
 use Rattle.chars.specs.Numbers.{digitsEnd}
+use Rattle.chars.proofs.bytes.Laws.{in-text}
 use Rattle.chars.proofs.scalars.Laws.{whole-read}
 use Rattle.chars.proofs.scalars.whole_end.Statement.{statement}
 use Rattle.chars.proofs.scalars.whole_end.Tie as tie
 
 peek-requires : tie.Need-peek-requires
 peek-requires c κs = search needs
+
+add-digits : tie.Need-add-digits
+add-digits c =
+    let a = c .before .before .before .before .args in
+    omega (arith, in-text (a .text .now) (a .at) (omega (arith, c .before .before .peek .ensures, c .before .if1 .left)))
 
 digits-requires : tie.Need-digits-requires
 digits-requires c κs = search needs
@@ -31,7 +37,7 @@ returns-3 c = inl refl
 
 -- the byte behind the digits, as it was read
 behind : (c : tie.After-peek2) → let a = c .before .before .before .before .before .before .args in
-    c .peek2 .result ≡ byteAt (a .text .now) (digitsEnd (a .text .now) (a .at))
+    c .peek2 .result ≡ byteAt (a .text .now) (digitsEnd (a .text .now) (a .at + 1))
 behind c =
     let a = c .before .before .before .before .before .before .args in
     c .peek2 .ensures ∙ ap (byteAt (a .text .now)) (c .before .digits .ensures)
@@ -54,6 +60,7 @@ whole-end-spec =
     tie.close
     (tie.spec
     peek-requires
+    add-digits
     digits-requires
     peek-requires-2
     returns

@@ -7,6 +7,7 @@ use borrow.Author.Needs.{needs}
 use lib.ListN.{length, getD, length-set}
 use Rattle.chars.specs.Scalars.{firstOf}
 use Rattle.reader.specs.Names.{bucketOf}
+use Rattle.reader.proofs.Following.{array-closing, object-closing, colon-sign}
 use Rattle.reader.proofs.Scans.{Opened, turn-takes, turn-fits, turn-close, turn-bad, turn-on}
 use Rattle.reader.proofs.Scans.{InArray, ElementTurn, array-empty-fits, array-empty, array-first, array-ready, array-refused, array-turn, element-few, array-next}
 use Rattle.reader.proofs.Scans.{InObject, MemberTurn, object-empty-fits, object-empty, object-first, object-ready, object-refused, object-turn, member-few, object-next}
@@ -48,6 +49,7 @@ use Rattle.reader.proofs.scanning.behind.Reads as behind-reads
 use Rattle.reader.proofs.scanning.close.Reads as close-reads
 use Rattle.reader.proofs.scanning.leaf.Reads as leaf-reads
 use Rattle.reader.proofs.scanning.refuse.Reads as refuse-reads
+use Rattle.reader.proofs.scanning.skip_to.Reads as skip-to-reads
 use Rattle.reader.proofs.scanning.+array+item+member+named_array+object+under+value.{statement}
 use Rattle.reader.proofs.scanning.+array+item+member+named_array+object+under+value.Tie.{close}
 
@@ -211,7 +213,7 @@ module _ (t : ℕ) where
   array-add-children c = omega (arith, element-few (array-turned c), turn-takes (array-turned c .turn))
 
   array-behind-requires : array-lts.Need-behind-requires (array-claims t) (array-at t) array.Post array-Inv-loop array-μ-loop
-  array-behind-requires c κs = omega arith
+  array-behind-requires c κs = array-closing
 
   array-enum-known-e : array-lts.Need-enum-known-e (array-claims t) (array-at t) array.Post array-Inv-loop array-μ-loop
   array-enum-known-e c = search needs
@@ -305,12 +307,14 @@ member-claims t = (
   name-reads.Learnt,
   push-reads.Asked,
   push-reads.Learnt,
-  skip-reads.Asked,
-  skip-reads.Learnt,
+  skip-to-reads.Asked,
+  skip-to-reads.Learnt,
   peek-reads.Asked,
   peek-reads.Learnt,
   refuse-reads.Asked,
   refuse-reads.Learnt,
+  skip-reads.Asked,
+  skip-reads.Learnt,
   under-below t,
   under.Post,
 )
@@ -323,10 +327,10 @@ module _ (t : ℕ) where
   member-name c = name-read (c .before .before .before .before .before .before .before .before .before .pre .1) (c .before .before .before .name .ensures) (c .before .e .given .1)
 
   -- its row is kept, and a colon stands behind it
-  member-named : (c : member-lts.After-skip2 (member-claims t) (member-at t) member.Post) →
+  member-named : (c : member-lts.After-skip (member-claims t) (member-at t) member.Post) →
       let a = c .before .before .before .before .before .before .before .before .before .before .before .before .before .before .before .before .before .before .before .before .args in
       Named (a .text .now) (a .heads .now) (a .marks .now) (c .before .before .before .before .before .before .before .before .push .last .0) (c .before .before .before .before .before .before .before .before .push .last .1 .0)
-      (a .depth) (a .object) (a .row) (a .at) (c .skip2 .result)
+      (a .depth) (a .object) (a .row) (a .at) (c .skip .result)
   member-named c =
       let a = c .before .before .before .before .before .before .before .before .before .before .before .before .before .before .before .before .before .before .before .before .args in
       let n = member-name (c .before .before .before .before .before .before .before .before .before .before .before) in
@@ -339,10 +343,10 @@ module _ (t : ℕ) where
         small = name-link (c .before .before .before .before .before .before .before .before .before .before .before .before .before .before .before .before .before .before .before .before .pre .1) n;
         pushed = c .before .before .before .before .before .before .before .before .push .ensures .0;
         index = c .before .before .before .before .before .before .before .before .push .ensures .1;
-        colon = c .before .before .before .skip .result;
-        place = c .before .before .before .skip .ensures;
+        colon = c .before .before .before .skip-to .result;
+        place = c .before .before .before .skip-to .ensures;
         sign = sym (c .before .before .peek .ensures) ∙ c .before .if1 .left;
-        starts = c .skip2 .ensures;
+        starts = c .skip .ensures;
       }
 
   member-name-requires : member-lts.Need-name-requires (member-claims t) (member-at t) member.Post
@@ -361,8 +365,8 @@ module _ (t : ℕ) where
       let m = name-room (c .before .before .before .before .before .before .before .before .before .before .before .pre .1) n in
       ((r .index, r .fresh, m .0), (n .takes, m .1, m .2))
 
-  member-skip-requires : member-lts.Need-skip-requires (member-claims t) (member-at t) member.Post
-  member-skip-requires c κs = tt
+  member-skip-to-requires : member-lts.Need-skip-to-requires (member-claims t) (member-at t) member.Post
+  member-skip-to-requires c κs = colon-sign
 
   member-peek-requires : member-lts.Need-peek-requires (member-claims t) (member-at t) member.Post
   member-peek-requires c κs = tt
@@ -377,13 +381,13 @@ module _ (t : ℕ) where
   member-same-length-2 c = c .before .before .before .before .before .before .before .before .push .kept .1 .0
 
   member-returns : member-lts.Need-returns (member-claims t) (member-at t) member.Post
-  member-returns c = told-bare (c .before .before .before .before .before .before .before .before .before .before .before .before .before .before .before .before .before .before .before .before .pre .1) (member-name (c .before .before .before .before .before .before .before .before .before .before .before)) (c .before .before .before .skip .ensures) (λ q. c .before .if1 .taken (c .before .before .peek .ensures ∙ q)) (c .refuse .ensures)
+  member-returns c = told-bare (c .before .before .before .before .before .before .before .before .before .before .before .before .before .before .before .before .before .before .before .before .pre .1) (member-name (c .before .before .before .before .before .before .before .before .before .before .before)) (c .before .before .before .skip-to .ensures) (λ q. c .before .if1 .taken (c .before .before .peek .ensures ∙ q)) (c .refuse .ensures)
 
   member-add-skip : member-lts.Need-add-skip (member-claims t) (member-at t) member.Post
   member-add-skip c = omega (arith, name-behind (member-name (c .before .before .before .before .before .before .before .before .before .before)) (c .before .peek .ensures) (omega (arith, c .if1 .left)))
 
-  member-skip-requires-2 : member-lts.Need-skip-requires-2 (member-claims t) (member-at t) member.Post
-  member-skip-requires-2 c κs = tt
+  member-skip-requires : member-lts.Need-skip-requires (member-claims t) (member-at t) member.Post
+  member-skip-requires c κs = tt
 
   member-add-under : member-lts.Need-add-under (member-claims t) (member-at t) member.Post
   member-add-under c = let r = named-ready (member-named (c .before .before)) in omega (arith, r .rowed, r .inside)
@@ -524,7 +528,7 @@ module _ (t : ℕ) where
   named-array-add-children c = omega (arith, element-few (named-array-turned c), turn-takes (named-array-turned c .turn))
 
   named-array-behind-requires : named-array-lts.Need-behind-requires (named-array-claims t) (named-array-at t) named-array.Post named-array-Inv-loop named-array-μ-loop
-  named-array-behind-requires c κs = omega arith
+  named-array-behind-requires c κs = array-closing
 
   named-array-enum-known-e : named-array-lts.Need-enum-known-e (named-array-claims t) (named-array-at t) named-array.Post named-array-Inv-loop named-array-μ-loop
   named-array-enum-known-e c = search needs
@@ -664,7 +668,7 @@ module _ (t : ℕ) where
   object-add-children c = omega (arith, member-few (object-turned c), turn-takes (object-turned c .turn))
 
   object-behind-requires : object-lts.Need-behind-requires (object-claims t) (object-at t) object.Post object-Inv-loop object-μ-loop
-  object-behind-requires c κs = omega arith
+  object-behind-requires c κs = object-closing
 
   object-enum-known-e : object-lts.Need-enum-known-e (object-claims t) (object-at t) object.Post object-Inv-loop object-μ-loop
   object-enum-known-e c = search needs
@@ -889,14 +893,14 @@ pub +array+item+member+named-array+object+under+value-spec : {M : Type 1} → st
     (member-enum-known-code t)
     (member-enum-known-e t)
     (member-push-requires t)
-    (member-skip-requires t)
+    (member-skip-to-requires t)
     (member-peek-requires t)
     (member-refuse-requires t)
     (member-same-length t)
     (member-same-length-2 t)
     (member-returns t)
     (member-add-skip t)
-    (member-skip-requires-2 t)
+    (member-skip-requires t)
     (member-add-under t)
     (member-under-requires t)
     (member-enum-known-code-2 t)
