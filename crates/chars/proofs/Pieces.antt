@@ -6,7 +6,7 @@ use Prim.Native.Nat.{ℕ, zero, suc, _+_, _-_, _≤_, _<_}
 use native.Mathlib.Numerals.{add-one}
 use native.Mathlib.Decide.{decLt}
 use native.Mathlib.Omega.{arith}
-use lib.ListN.{length, length-take, length-drop}
+use lib.ListN.{length}
 use lib.Seq.{drop-cons, drop-drop, take-add}
 use Rattle.model.specs.Text.{all}
 use Rattle.chars.specs.Bytes.{byteAt}
@@ -32,9 +32,6 @@ module _ (s : List ℕ) where
       let n : a + (b - a) ≡ b = omega arith in
       let z : c - a ≡ b - a + (c - b) = omega arith in
       rw (z, take-add, drop-drop, n)
-
-  pub part-length : (a e : ℕ) → e ≤ length s → length (part s a e) ≡ e - a
-  part-length a e h = simp (length-take, length-drop) (omega arith)
 
 -- every byte of both passes the test
 pub all-append : (p : ℕ → Bool) (s t : List ℕ) → all p (s ++ t) ≡ (all p s && all p t)

@@ -1,4 +1,4 @@
--- For private contracts: a value that meets the new definition and fails the old one, where the new is not carried to the old. That it does is proofs/Complete.antt.
+-- For the theorem of Compare and for tests: a value that meets the new definition and fails the old one, where the new is not carried to the old. That it does is proofs/Complete.antt.
 -- Its size: each required field of the new definition gives at most one member, and each Object or Map on the way to what fails one more.
 -- That one's name is from the old definition, or is of 'a's, at most one more than the longest name beside it has characters.
 -- The longest value at an end is DateTime's: 22 bytes for the 10 that a schema spends on it.

@@ -122,12 +122,6 @@ module _ {s t : List ℕ} {r : ℕ} (w : Rowed s t r) where
     pub string-read : x .kind ≡ 6 → w .tree ≡ scalar Quoted (x .first) (x .end)
     string-read h = string-row (sym (p .kind) ∙ h) ∙ rw (p .first, p .last)
 
-    pub array-read : x .kind ≡ 7 → w .tree ≡ array (x .first) (x .end) (elementsIn (w .tree))
-    array-read h = array-row (sym (p .kind) ∙ h) ∙ rw (p .first, p .last)
-
-    pub object-read : x .kind ≡ 8 → w .tree ≡ object (x .first) (x .end) (membersIn (w .tree))
-    object-read h = object-row (sym (p .kind) ∙ h) ∙ rw (p .first, p .last)
-
 -- ---- one tree at most
 
 pub same-tree : {s t : List ℕ} {r : ℕ} (w v : Rowed s t r) → w .tree ≡ v .tree
@@ -343,31 +337,6 @@ module _ {s t key : List ℕ} {r v : ℕ} (o : ObjectRow s t r) (f : Finds s t r
 
   pub not-found : v ≡ 0 → lookup s key (o .members) ≡ nothing
   not-found e = missing-as (lookup s key (o .members)) (f .tells o) e
-
--- what stands under "required" or "optional", if it is an object
-abbrev pub partMembers : Option Node → Members
-partMembers nothing = no-member
-partMembers (some n) = membersIn n
-
-pub record FoundPart (s t key : List ℕ) (ms : Members) (v : ℕ) : Type 0 where
-  pub part : PartRow s t v
-  pub is : part .members ≡ partMembers (lookup s key ms)
-
-module _ {s t key : List ℕ} {r v : ℕ} (o : ObjectRow s t r) (f : Finds s t r key v) where
-  pub absent-part : v ≡ 0 → FoundPart s t key (o .members) v
-  absent-part e = record {
-    part = record { members = no-member; absent = λ _. refl; present = λ l. absurd (omega arith) };
-    is = sym (ap partMembers (not-found o f e));
-  }
-
-  pub present-part : 0 < v → word t v 0 ≡ 8 → FoundPart s t key (o .members) v
-  present-part l k =
-      let x = found o f l in
-      let w = as-object (x .value) k in
-      record {
-        part = record { members = membersIn (x .value .tree); absent = λ e. absurd (omega arith); present = λ _. (w .first, w .end, w .holds, w .placed) };
-        is = sym (ap partMembers (x .is));
-      }
 
 -- ---- values of other kinds
 

@@ -66,7 +66,3 @@ unfolding named
 named-small b =
     small b 0x22 _ _ (lit≤ tt) (small b 0x5C _ _ (lit≤ tt) (small b 0x2F _ _ (lit≤ tt) (small b 0x62 _ _ (lit≤ tt)
     (small b 0x66 _ _ (lit≤ tt) (small b 0x6E _ _ (lit≤ tt) (small b 0x72 _ _ (lit≤ tt) (small b 0x74 _ _ (lit≤ tt) (lit≤ tt))))))))
-
-pub highest-most : (b : ℕ) → highest b ≤ 0xBF
-unfolding highest
-highest-most b = both (λ x. x ≤ 0xBF) (eqb b 0xED) (λ _. omega arith) (λ _. both (λ x. x ≤ 0xBF) (eqb b 0xF4) (λ _. omega arith) (λ _. omega arith))

@@ -1,6 +1,5 @@
 -- `read_within` meets its contract: the laws of `Whole`, at limits that are no more than a document's. The measure is how many bytes more are allowed.
-use Prim.Native.Nat.{ℕ, _-_, _≤_, _<_}
-use mathlib.Core.List.{List}
+use Prim.Native.Nat.{ℕ, _-_, _<_}
 use native.Mathlib.Omega.{arith}
 use native.Mathlib.Nat.{le-of-lt, min-eq-left, min-eq-right}
 use borrow.Author.Needs.{needs}

@@ -1,5 +1,5 @@
 -- `reader::scanning::follows` meets its contract: the three ways of its tests.
-use mathlib.Core.Path.{_≡_, refl, sym, _∙_}
+use mathlib.Core.Path.{refl, sym, _∙_}
 use native.Mathlib.Omega.{arith}
 use Rattle.reader.proofs.Items.{byte-in}
 use Rattle.reader.proofs.scanning.follows.Statement.{statement}

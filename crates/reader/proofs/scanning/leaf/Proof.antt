@@ -1,5 +1,4 @@
 -- `reader::scanning::leaf` meets its contract: what was read is told, and its row is kept.
-use mathlib.Core.Path.{_≡_}
 use native.Mathlib.Omega.{arith}
 use borrow.Author.Needs.{needs}
 use Rattle.reader.proofs.Leaves.{leaf-broken, leaf-fits, leaf-noted}

@@ -1,5 +1,5 @@
 -- `reader::scanning::skip_to` meets its contract.
-use mathlib.Core.Path.{_≡_, sym, _∙_}
+use mathlib.Core.Path.{sym, _∙_}
 use Rattle.reader.proofs.Following.{sign-stops}
 use Rattle.reader.proofs.scanning.skip_to.Statement.{statement}
 use Rattle.reader.proofs.scanning.skip_to.Tie as tie

@@ -21,7 +21,8 @@ abbrev μ-loop : tie.MeasureT-loop
 
 -- the member whose name is read in a turn, and the quotes of that name
 name-here : (c : tie.In-loop Inv-loop μ-loop) →
-    MemberHere (now (c .before .before .before .before .before .before .args .text)) (now (c .before .before .before .before .before .before .args .table)) (c .before .loop .row) (c .before .loop .inv .rest)
+    let a = c .before .before .before .before .before .before .args in
+    MemberHere (now (a .text)) (now (a .table)) (c .before .loop .row) (c .before .loop .inv .rest)
 name-here c = candidate (c .before .loop .inv) (c .loop-test .taken)
 
 quotes : (c : tie.After-row-at2 Inv-loop μ-loop) →
@@ -29,11 +30,15 @@ quotes : (c : tie.After-row-at2 Inv-loop μ-loop) →
     (x .first + 2 ≤ x .end) × (x .end ≤ length (now (c .before .before .before .before .before .before .before .args .text)))
 quotes c = quotes-read (c .row-at2 .ensures) (name-here (c .before) .quoted)
 
+-- the row of a name that may be the one looked for
+abbrev row-read : tie.Then1 Inv-loop μ-loop → tie.After-row-at2 Inv-loop μ-loop
+row-read c = c .before .before .before .before .before
+
 row-at-requires : tie.Need-row-at-requires Inv-loop μ-loop
 row-at-requires c κs = in-table (as-row (c .before .before .before .pre))
 
 add-row : tie.Need-add-row Inv-loop μ-loop
-add-row c = omega (arith, in-table (as-row (c .before .before .before .before .pre)) .here, (c .before .before .before .before) .good)
+add-row c = omega (arith, in-table (as-row (c .before .before .before .before .pre)) .here, c .before .before .before .before .good)
 
 loop-holds : tie.Need-loop-holds Inv-loop μ-loop
 loop-holds c = seek (c .before .before .before .before .pre) (c .row-at .ensures .children)
@@ -66,40 +71,46 @@ apart-requires : tie.Need-apart-requires Inv-loop μ-loop
 apart-requires c κs = search needs
 
 sub-equal : tie.Need-sub-equal Inv-loop μ-loop
-sub-equal c = omega (arith, quotes (c .before .before .before .before .before))
+sub-equal c = omega (arith, quotes (row-read c))
 
 part-equal-start : tie.Need-part-equal-start Inv-loop μ-loop
-part-equal-start c = omega (arith, quotes (c .before .before .before .before .before))
+part-equal-start c = omega (arith, quotes (row-read c))
 
 part-equal-end : tie.Need-part-equal-end Inv-loop μ-loop
-part-equal-end c = omega (arith, quotes (c .before .before .before .before .before))
+part-equal-end c = omega (arith, quotes (row-read c))
 
 equal-requires : tie.Need-equal-requires Inv-loop μ-loop
 equal-requires c κs = search needs
 
 add-result : tie.Need-add-result Inv-loop μ-loop
-add-result c = omega (arith, name-here (c .before .before .before .before .before .before .before .before .before) .in-table .here)
+add-result c = omega (arith, name-here (row-read (c .before .before .before) .before) .in-table .here)
 
 returns : tie.Need-returns Inv-loop μ-loop
-returns c = hit (c .before .before .before .before .before .before .before .before .before .before .loop .inv) (c .before .before .before .before .before .before .before .before .before .loop-test .taken) (c .before .before .before .before .before .before .before .before .row-at2 .ensures) (c .before .equal .ensures (c .if2 .taken))
+returns c =
+    let d = row-read (c .before .before .before) in
+    hit (d .before .before .loop .inv) (d .before .loop-test .taken) (d .row-at2 .ensures) (c .before .equal .ensures (c .if2 .taken))
 
 sub-same-name : tie.Need-sub-same-name Inv-loop μ-loop
-sub-same-name c = omega (arith, quotes (c .before .before .before .before .before .before .before .before))
+sub-same-name c = omega (arith, quotes (row-read (c .before .before .before)))
 
 part-same-name-start : tie.Need-part-same-name-start Inv-loop μ-loop
-part-same-name-start c = omega (arith, quotes (c .before .before .before .before .before .before .before .before))
+part-same-name-start c = omega (arith, quotes (row-read (c .before .before .before)))
 
 part-same-name-end : tie.Need-part-same-name-end Inv-loop μ-loop
-part-same-name-end c = omega (arith, quotes (c .before .before .before .before .before .before .before .before))
+part-same-name-end c = omega (arith, quotes (row-read (c .before .before .before)))
 
 same-name-requires : tie.Need-same-name-requires Inv-loop μ-loop
 same-name-requires c κs = search needs
 
 add-result-2 : tie.Need-add-result-2 Inv-loop μ-loop
-add-result-2 c = omega (arith, name-here (c .before .before .before .before .before .before .before .before .before .before .before .before) .in-table .here, (c .before .before .before .before .before .before .before .before .before .before .before .before .before .before .before .before .before .before) .good)
+add-result-2 c =
+    let d = row-read (c .before .before .before .before .before .before) in
+    omega (arith, name-here (d .before) .in-table .here, d .before .before .before .before .before .before .before .good)
 
 returns-2 : tie.Need-returns-2 Inv-loop μ-loop
-returns-2 c = hit (c .before .before .before .before .before .before .before .before .before .before .before .before .before .loop .inv) (c .before .before .before .before .before .before .before .before .before .before .before .before .loop-test .taken) (c .before .before .before .before .before .before .before .before .before .before .before .row-at2 .ensures) (sym (c .before .same-name .ensures) ∙ c .if3 .taken)
+returns-2 c =
+    let d = row-read (c .before .before .before .before .before .before) in
+    hit (d .before .before .loop .inv) (d .before .loop-test .taken) (d .row-at2 .ensures) (sym (c .before .same-name .ensures) ∙ c .if3 .taken)
 
 add-row-at : tie.Need-add-row-at Inv-loop μ-loop
 add-row-at c = omega (arith, name-here (c .before .before .before .before .before .before) .in-table .here)
@@ -115,7 +126,8 @@ loop-less c = omega arith
 
 loop-again : tie.Need-loop-again Inv-loop μ-loop
 loop-again c =
-    missed (c .before .before .before .before .before .before .before .before .loop .inv) (c .before .before .before .before .before .before .before .loop-test .taken) (c .before .before .before .before .before .before .row-at2 .ensures)
+    let d = c .before .before .before .before .before .before in
+    missed (d .before .before .loop .inv) (d .before .loop-test .taken) (d .row-at2 .ensures)
     (⊎-elim (λ w. sym (w .5 .ensures) ∙ w .6 .left) (λ w. c .before .before .apart .ensures (not-false _ (w .left))) (c .before .if1 .came))
     (c .row-at3 .ensures .next)
 
