@@ -7,3 +7,8 @@ pub use Rattle.chars.proofs.hashing.Laws.{hash-small, name-hashed, name
 pub use Rattle.chars.proofs.space.Laws.{run-end, run-next, run-stop, run-from, run-within}
 pub use Rattle.chars.proofs.scalars.Laws.{first-quote, first-array, first-object, quote-first, array-first, object-first}
 pub use Rattle.chars.proofs.scalars.Laws.{scalar-bounded, scalar-end, scalar-spells, quoted-bounds, quoted-characters, characters-text}
+-- for the written grammar
+pub use Rattle.chars.proofs.bytes.Laws.{outside, digit-byte, six-ways, lowest-least, lowest-of, highest-of}
+pub use Rattle.chars.proofs.strings.Laws.{char-next, string-char, string-quote, string-stop, chars-step}
+pub use Rattle.chars.proofs.numbers.Laws.{sign-least, whole-some, digits-piece, whole-piece, Minus}
+pub use Rattle.chars.proofs.scalars.Laws.{FirstIs, first-is}

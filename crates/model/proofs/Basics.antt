@@ -75,3 +75,8 @@ and-ways a b t f = let h = and-eq-true-iff a b .0 t in f (h .0) (h .1)
 pub by-test : {A : Type 0} (b : Bool) → (b ≡ true → A) → (b ≡ false → A) → A
 by-test true f g = f refl
 by-test false f g = g refl
+
+-- two texts are the same in either order
+pub same-comm : (a b : List ℕ) → same a b ≡ same b a
+same-comm a b =
+    by-test (same a b) (λ t. t ∙ sym (same-of b a (sym (same-eq a b t)))) (λ t. t ∙ sym (false-of (same b a) (same a b) (λ u. same-of a b (sym (same-eq b a u))) t))

@@ -40,7 +40,7 @@ abbrev pub Under : List ℕ → Value → Members → Type 0
 Under n w mnil = ⊥
 Under n w (mcons m v ms) = ((n ≡ m) × (w ≡ v)) ⊎ Under n w ms
 
--- ---- numbers, by the grammar of RFC 8259, section 6
+-- ---- numbers, by the grammar of RFC 8259, section 6: minus = %x2D, plus = %x2B, zero = %x30, digit1-9 = %x31-39, decimal-point = %x2E, e = %x65 / %x45
 
 abbrev pub isDigit : ℕ → Bool
 isDigit c = leb 0x30 c && leb c 0x39

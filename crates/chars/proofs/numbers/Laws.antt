@@ -21,7 +21,7 @@ use Rattle.chars.proofs.Bounds.{Bounded, unexpected-ways, unexpected-bo
 use Rattle.chars.proofs.Pieces.{part-none, part-cons, part-one, part-join, all-append, all-imp, run-all, run-some}
 
 module _ (s : List ℕ) where
-  sign-least : (j : ℕ) → j ≤ signEnd s j
+  pub sign-least : (j : ℕ) → j ≤ signEnd s j
   unfolding signEnd
   sign-least j = both (λ p. j ≤ p) (eqb (byteAt s j) 0x2B || eqb (byteAt s j) 0x2D) (λ _. omega arith) (λ _. omega arith)
 
@@ -81,7 +81,7 @@ letter-plain : (c : ℕ) → eqb c 0x45 || eqb c 0x65 ≡ true → plain c ≡ f
 letter-plain c t = rw (or-assoc, t, or-true)
 
 -- a sign or nothing
-abbrev Minus : List ℕ → Type 0
+abbrev pub Minus : List ℕ → Type 0
 Minus t = (t ≡ []) ⊎ (t ≡ text "-")
 
 minus-plain : (t : List ℕ) → Minus t → isInteger t ≡ true
@@ -99,7 +99,7 @@ digits-int c t z h =
     (λ lo hi. rw (z, le-leb 0x31 c (omega (arith, leb-true 0x30 c lo, eqb-false c 0x30 z)), hi, r)))
 
 module _ (s : List ℕ) where
-  digits-piece : (j : ℕ) → (digitsEnd s j ≡ j → ⊥) → isDigits (part s j (digitsEnd s j)) ≡ true
+  pub digits-piece : (j : ℕ) → (digitsEnd s j ≡ j → ⊥) → isDigits (part s j (digitsEnd s j)) ≡ true
   digits-piece j n =
       let r = run-some isDigit s j n in
       let c = part-cons s j (digitsEnd s j) (r .0) (omega arith) in
@@ -113,7 +113,7 @@ module _ (s : List ℕ) where
       rw (part-cons s j (digitsEnd s (j + 1)) (omega arith) (omega arith), t, digits-piece (j + 1) n, or-true))
       (λ _ n. digits-power (part s j (digitsEnd s j)) (digits-piece j n))
 
-  whole-piece : (j : ℕ) → (wholeEnd s j ≡ j → ⊥) → (isInt (part s j (wholeEnd s j)) ≡ true) × (all isDigit (part s j (wholeEnd s j)) ≡ true)
+  pub whole-piece : (j : ℕ) → (wholeEnd s j ≡ j → ⊥) → (isInt (part s j (wholeEnd s j)) ≡ true) × (all isDigit (part s j (wholeEnd s j)) ≡ true)
   unfolding wholeEnd
   whole-piece j =
       both (λ e. (e ≡ j → ⊥) → (isInt (part s j e) ≡ true) × (all isDigit (part s j e) ≡ true)) (eqb (byteAt s j) 0x30)

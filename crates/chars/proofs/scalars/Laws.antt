@@ -32,36 +32,36 @@ use Rattle.chars.proofs.Pieces.{part-none, part-cons}
 use Rattle.chars.proofs.numbers.Laws.{Spelled, unexpected-spelled, number-bounded, number-spelled}
 
 -- the first byte of each kind of value
-abbrev Begins : ℕ → First → Type 0
-Begins b Quote = b ≡ 0x22
-Begins b Array = b ≡ 0x5B
-Begins b Object = b ≡ 0x7B
-Begins b Number = isDigit b || eqb b 0x2D ≡ true
-Begins b LetterN = b ≡ 0x6E
-Begins b LetterF = b ≡ 0x66
-Begins b LetterT = b ≡ 0x74
-Begins b Other = Unit
+abbrev pub FirstIs : ℕ → First → Type 0
+FirstIs b Quote = b ≡ 0x22
+FirstIs b Array = b ≡ 0x5B
+FirstIs b Object = b ≡ 0x7B
+FirstIs b Number = isDigit b || eqb b 0x2D ≡ true
+FirstIs b LetterN = b ≡ 0x6E
+FirstIs b LetterF = b ≡ 0x66
+FirstIs b LetterT = b ≡ 0x74
+FirstIs b Other = Unit
 
-begins : (b : ℕ) → Begins b (firstOf b)
+pub first-is : (b : ℕ) → FirstIs b (firstOf b)
 unfolding firstOf
-begins b =
-    both (Begins b) (eqb b 0x22) (eqb-true b 0x22)
-    (λ _. both (Begins b) (eqb b 0x5B) (eqb-true b 0x5B)
-    (λ _. both (Begins b) (eqb b 0x7B) (eqb-true b 0x7B)
-    (λ _. both (Begins b) (isDigit b || eqb b 0x2D) (λ t. t)
-    (λ _. both (Begins b) (eqb b 0x6E) (eqb-true b 0x6E)
-    (λ _. both (Begins b) (eqb b 0x66) (eqb-true b 0x66)
-    (λ _. both (Begins b) (eqb b 0x74) (eqb-true b 0x74) (λ _. tt)))))))
+first-is b =
+    both (FirstIs b) (eqb b 0x22) (eqb-true b 0x22)
+    (λ _. both (FirstIs b) (eqb b 0x5B) (eqb-true b 0x5B)
+    (λ _. both (FirstIs b) (eqb b 0x7B) (eqb-true b 0x7B)
+    (λ _. both (FirstIs b) (isDigit b || eqb b 0x2D) (λ t. t)
+    (λ _. both (FirstIs b) (eqb b 0x6E) (eqb-true b 0x6E)
+    (λ _. both (FirstIs b) (eqb b 0x66) (eqb-true b 0x66)
+    (λ _. both (FirstIs b) (eqb b 0x74) (eqb-true b 0x74) (λ _. tt)))))))
 
 module _ (b : ℕ) where
   pub first-quote : firstOf b ≡ Quote → b ≡ 0x22
-  first-quote e = rw e at (begins b)
+  first-quote e = rw e at (first-is b)
 
   pub first-array : firstOf b ≡ Array → b ≡ 0x5B
-  first-array e = rw e at (begins b)
+  first-array e = rw e at (first-is b)
 
   pub first-object : firstOf b ≡ Object → b ≡ 0x7B
-  first-object e = rw e at (begins b)
+  first-object e = rw e at (first-is b)
 
   -- the other way round
   pub quote-first : b ≡ 0x22 → firstOf b ≡ Quote
@@ -120,7 +120,7 @@ module _ (s : List ℕ) (i : ℕ) where
       (λ z _. let l = in-text s i (omega (arith, ltb-true 0 c z)) in
       word-good k (c ∷ w) s i (omega arith) f (wordAt k (c ∷ w) s i) (word-read k (c ∷ w) s i t (omega arith)))
 
-  good-by : (f : First) → Begins (byteAt s i) f → Good s i (scalarBy f s i)
+  good-by : (f : First) → FirstIs (byteAt s i) f → Good s i (scalarBy f s i)
   good-by Quote b = quoted-good s i b (stringAt s (i + 1)) refl (string-ahead s (i + 1))
   good-by Number b = (number-bounded s i, number-spelled s i)
   good-by LetterN b = letter-good Null 0x6E (text "ull") refl (λ e q. q) b
@@ -131,10 +131,10 @@ module _ (s : List ℕ) (i : ℕ) where
   good-by Other b = unexpected-good
 
   pub scalar-bounded : Bounded s i (scalarAt s i)
-  scalar-bounded = good-by (firstOf (byteAt s i)) (begins (byteAt s i)) .0
+  scalar-bounded = good-by (firstOf (byteAt s i)) (first-is (byteAt s i)) .0
 
   pub scalar-spelled : Spelled s i (scalarAt s i)
-  scalar-spelled = good-by (firstOf (byteAt s i)) (begins (byteAt s i)) .1
+  scalar-spelled = good-by (firstOf (byteAt s i)) (first-is (byteAt s i)) .1
 
   -- behind the text
   pub scalar-end : length s ≤ i → scalarAt s i ≡ refused 2 (length s)
