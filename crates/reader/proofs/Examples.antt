@@ -22,7 +22,7 @@ use Rattle.reader.specs.Spelling.{valueOf}
 use Rattle.reader.specs.Answer.{documentLimits, schemaLimits, readWithin, answer, answerOf, tableOf}
 
 -- a text within limits; who unfolds this unfolds all that reading computes with
-within : ℕ → ℕ → List ℕ → Parse Node
+unfoldable pub within : ℕ → ℕ → List ℕ → Parse Node
 unfolding codeOf digit named lowest highest sixBits unexpected runFrom run isSpace stopAt wrongAt hexPair partnerAt restAt unicodeAt escapeAt twoAt threeAt fourAt charFrom charAt stringFrom stringAt charsFrom charsAt wholeEnd signEnd powerAt exponentAt fractionAt unsignedAt numberAt firstOf wordAt afterItem itemsFrom itemsAt listAt repeated nameAt afterName valueAt alone readText
 within bytes depth s = readText bytes depth s
 
