@@ -9,7 +9,11 @@
 extern "C" {
 #endif
 
-/* answer[0]. Behind each code: answer[2], the place, and answer[3], other. A place is a byte of a text, counted from 0. */
+/*
+ * answer[0]. Behind each code: answer[2], the place, and answer[3], other. A place is a byte of a text, counted from 0.
+ * With the codes 2 to 7 the bytes before the place begin some well-formed text within the depth, of whatever length;
+ * with 3 to 7 no such text begins with one byte more.
+ */
 enum teleport_code {
     TELEPORT_OK = 0,                  /* read, met or carried: 0; after Read the number of rows */
     TELEPORT_TOO_LONG = 1,            /* the limit; 0 */
