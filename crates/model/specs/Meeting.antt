@@ -58,7 +58,7 @@ IfObject P (string s) = ⊥
 IfObject P (array vs) = ⊥
 IfObject P (object ms) = P ms
 
--- "JSON: always. Schema: when it is a definition. Integer: when it is a number without fraction or exponent. Float: when it is a number. String: .. Boolean: .. DateTime: when it is a string that is a date"
+-- the lines of 01, "Meeting", from JSON to DateTime
 abbrev pub meetsNamed : Named → Value → Bool
 meetsNamed JSON v = true
 meetsNamed Schema v = isSome (definitionOf v)

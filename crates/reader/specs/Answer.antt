@@ -23,11 +23,11 @@ schemaLimits = record { bytes = 16384; depth = 24 }
 abbrev pub readWithin : Limits → List ℕ → Parse Node
 readWithin l s = readText (min (l .bytes) 65536) (min (l .depth) 32) s
 
--- "An answer is four numbers: code, text, place, other."
+-- "An answer is four numbers: code, text (0 none, 1, 2), place (a byte offset from 0), other."
 abbrev pub answer : ℕ → ℕ → ℕ → ℕ → Answer
 answer code which place other = record { code = code; text = which; place = place; other = other }
 
--- "A table of w words holds w/5 rows, rounded down."
+-- "A table of w words, each of 32 bits, holds w/5 rows, rounded down."
 abbrev pub rowsIn : ℕ → ℕ
 rowsIn w = w / rowWords
 
@@ -36,7 +36,7 @@ unfoldable pub answerOf : ℕ → ℕ → Parse Node → Answer
 answerOf which w (refused c p) = answer c which p 0
 answerOf which w (parsed n e) = cond (leb (size n) (rowsIn w)) (answer 0 0 0 (size n)) (answer 8 which 0 (size n))
 
--- "A table whose text was well-formed and had room holds its rows, and the words behind the last row are as found. Any other table is as found."
+-- "A table whose text was well-formed and had room holds its rows, and the words behind the last row are as found"; "Any other table, and that of a text not reached, is as found."
 unfoldable pub tableOf : List ℕ → Parse Node → List ℕ
 tableOf t (refused c p) = t
 tableOf t (parsed n e) = cond (leb (size n) (rowsIn (length t))) (words n ++ drop (rowWords * size n) t) t

@@ -4,7 +4,7 @@ use mathlib.Core.List.{List, [], _∷_, _++_}
 use Rattle.chars.specs.Tokens.{kindNumber}
 use Rattle.reader.specs.Tree.{Node, scalar, array, object, Nodes, none, more, Members, no-member, member}
 
--- "Five words: kind, first byte, byte after the last, direct children, rows of the whole subtree with its own."
+-- "Five words: kind, first byte, byte after the last, direct children (members or elements), rows of the whole subtree with its own."
 abbrev pub rowWords : ℕ
 rowWords = 5
 

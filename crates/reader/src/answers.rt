@@ -1,4 +1,4 @@
-// 01: "An answer is four numbers: code, text, place, other."
+// 01: "An answer is four numbers: code, text (0 none, 1, 2), place (a byte offset from 0), other."
 ghost use mathlib.Core.Path.{_≡_};
 ghost use Rattle.reader.specs.Answer.{answer};
 

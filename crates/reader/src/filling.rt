@@ -10,7 +10,7 @@ ghost use lib.Seq.{sets};
 ghost use Rattle.reader.specs.Rows.{rowWords, row as rowOf};
 ghost use Rattle.reader.specs.Marks.{rowIn, rowsIn};
 
-// "Five words: kind, first byte, byte after the last, direct children, rows of the whole subtree with its own."
+// "Five words: kind, first byte, byte after the last, direct children (members or elements), rows of the whole subtree with its own."
 pub const ROW_WORDS: usize = 5;
 
 // Writes a row.

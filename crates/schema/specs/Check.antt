@@ -64,7 +64,7 @@ checkedAs (accepted d) w s = judgedAs d w s (readDocument s)
 unfoldable pub checkAnswer : ℕ → ℕ → List ℕ → List ℕ → Answer
 checkAnswer w₁ w₂ document schema = checkedAs (accept 2 w₂ schema) w₁ document
 
--- ---- the document's table: "that of a text not reached is as found"
+-- ---- the document's table: "Any other table, and that of a text not reached, is as found."
 
 abbrev pub tableAfter : Accepted → List ℕ → List ℕ → List ℕ
 tableAfter (not-accepted a) t s = t

@@ -21,11 +21,11 @@ pub record Schema (w : ℕ) (s : List ℕ) (d : Def) : Type 0 where
 
 -- ---- the answer on two accepted schemas with the definitions a, new, and b, old
 
--- "Compare says 0 exactly when every JSON value that meets new meets old"
+-- demand 3: "exactly when every JSON value that meets the new one meets the old one"
 abbrev pub Carried : Def → Def → Type 0
 Carried a b = (v : Value) → IsJson v → Meets a v → Meets b v
 
--- "and 30 exactly when some value meets new and fails old"
+-- demand 3: "exactly when there is a JSON value that meets the new one and fails the old"
 abbrev pub NotCarried : Def → Def → Type 0
 NotCarried a b = (v : Value) × IsJson v × Meets a v × (¬ Meets b v)
 
@@ -43,7 +43,7 @@ pub record Compares (w₁ w₂ : ℕ) (new old : List ℕ) (r : Answer) : Type 0
   pub refuses : Refuses (accept 1 w₁ new) (accept 2 w₂ old) r
   pub compares : (a b : Def) → Schema w₁ new a → Schema w₂ old b → Compared a b r
 
--- ---- the old schema's table: "that of a text not reached is as found"
+-- ---- the old schema's table: "Any other table, and that of a text not reached, is as found."
 abbrev pub oldTable : Accepted → List ℕ → List ℕ → List ℕ
 oldTable (not-accepted a) t s = t
 oldTable (accepted d) t s = tableOf t (readSchema s)

@@ -91,7 +91,7 @@ abbrev pub bothFields : ℕ → Defined LocatedFields → Defined LocatedFields 
 bothFields p (faulty c q) o = faulty c q
 bothFields p (fine r) o = mapped (object-at p r) o
 
--- "name both required and optional: 12, its opening quote under "optional""
+-- code 12, for a name both required and optional, at its opening quote under "optional"
 abbrev pub unshared : Option ℕ → Defined Located → Defined Located
 unshared none d = d
 unshared (some q) d = faulty 12 q

@@ -27,7 +27,7 @@ nothing = mismatch 0 0 0
 abbrev pub orElse : Mismatch → Mismatch → Mismatch
 orElse a b = cond (eqb (a .code) 0) b a
 
--- "20 wrong kind of value: first byte, document; definition's first byte, schema", where the test fails
+-- code 20, for a wrong kind of value, at its first byte and by the definition's, where the test fails
 abbrev pub unless : Bool → ℕ → ℕ → Mismatch
 unless ok place other = cond ok nothing (mismatch 20 place other)
 
@@ -123,7 +123,7 @@ abbrev pub judged : Option Node → Mismatch → (Node → Mismatch) → Mismatc
 judged none absent j = absent
 judged (some n) absent j = j n
 
--- "21 required name missing: the object's brace; opening quote of the name in the schema"
+-- code 21, for a required name that is missing, at the object's brace and by the opening quote of the name in the schema
 abbrev pub missing : ℕ → ℕ → Mismatch
 missing brace q = mismatch 21 brace q
 
