@@ -6,22 +6,18 @@ use Rattle.chars.proofs.bytes.code_of.Tie as tie
 use Rattle.chars.proofs.bytes.code_of.Reads as reads
 use Rattle.chars.proofs.bytes.code_of.Lts as lts
 
--- src/lib.rt:56:1
 returns : tie.Need-returns
 unfolding codeOf
 returns c = agree codeOf (λ _. 4) 0x80 66 tt (c .before .before .args .b) (omega arith) (omega arith)
 
--- src/lib.rt:56:1
 returns-2 : tie.Need-returns-2
 unfolding codeOf
 returns-2 c = agree codeOf (λ _. 4) 0xF5 11 tt (c .before .before .before .args .b) (omega arith) (omega arith)
 
--- src/lib.rt:56:1
 returns-3 : tie.Need-returns-3
 unfolding codeOf
 returns-3 c = agree codeOf (λ _. 3) 0 0x80 tt (c .before .args .b) (omega arith) (omega arith)
 
--- src/lib.rt:56:1
 returns-4 : tie.Need-returns-4
 unfolding codeOf
 returns-4 c = agree codeOf (λ _. 3) 0xC2 51 tt (c .before .before .before .args .b) (omega arith) (omega arith)

@@ -8,45 +8,36 @@ use Rattle.chars.proofs.bytes.digit.Tie as tie
 use Rattle.chars.proofs.bytes.digit.Reads as reads
 use Rattle.chars.proofs.bytes.digit.Lts as lts
 
--- src/lib.rt:79:24
 sub-result : tie.Need-sub-result
 sub-result c = search needs
 
--- src/lib.rt:80:24
 sub-result-2 : tie.Need-sub-result-2
 sub-result-2 c = search needs
 
--- src/lib.rt:74:1
 returns : tie.Need-returns
 unfolding digit
 returns c = agree digit (λ b. b - 48) 48 10 tt (c .before .before .args .b) (omega arith) (omega arith)
 
--- src/lib.rt:74:1
 returns-2 : tie.Need-returns-2
 unfolding digit
 returns-2 c = agree digit (λ b. b - 55) 65 6 tt (c .before .before .before .before .args .b) (omega arith) (omega arith)
 
--- src/lib.rt:74:1
 returns-3 : tie.Need-returns-3
 unfolding digit
 returns-3 c = agree digit (λ b. b - 87) 97 6 tt (c .before .before .before .before .before .before .args .b) (omega arith) (omega arith)
 
--- src/lib.rt:74:1
 returns-4 : tie.Need-returns-4
 unfolding digit
 returns-4 c = agree digit (λ _. 16) 0 48 tt (c .before .args .b) (omega arith) (omega arith)
 
--- src/lib.rt:74:1
 returns-5 : tie.Need-returns-5
 unfolding digit
 returns-5 c = agree digit (λ _. 16) 58 7 tt (c .before .before .before .args .b) (omega arith) (omega arith)
 
--- src/lib.rt:74:1
 returns-6 : tie.Need-returns-6
 unfolding digit
 returns-6 c = agree digit (λ _. 16) 71 26 tt (c .before .before .before .before .before .args .b) (omega arith) (omega arith)
 
--- src/lib.rt:74:1
 returns-7 : tie.Need-returns-7
 unfolding digit
 returns-7 c = agree digit (λ _. 16) 103 153 tt (c .before .before .before .before .before .before .args .b) (omega arith) (omega arith)

@@ -6,17 +6,14 @@ use Rattle.chars.proofs.bytes.highest.Tie as tie
 use Rattle.chars.proofs.bytes.highest.Reads as reads
 use Rattle.chars.proofs.bytes.highest.Lts as lts
 
--- src/lib.rt:113:1
 returns : tie.Need-returns
 unfolding highest
 returns c = sym (ap highest (c .match .keys1))
 
--- src/lib.rt:113:1
 returns-2 : tie.Need-returns-2
 unfolding highest
 returns-2 c = sym (ap highest (c .match .keys2))
 
--- src/lib.rt:113:1
 returns-3 : tie.Need-returns-3
 unfolding highest
 returns-3 c = rw (ne-eqb _ 237 (c .match .rest .0 .1), ne-eqb _ 244 (c .match .rest .1))

@@ -6,17 +6,14 @@ use Rattle.chars.proofs.bytes.lowest.Tie as tie
 use Rattle.chars.proofs.bytes.lowest.Reads as reads
 use Rattle.chars.proofs.bytes.lowest.Lts as lts
 
--- src/lib.rt:103:1
 returns : tie.Need-returns
 unfolding lowest
 returns c = sym (ap lowest (c .match .keys1))
 
--- src/lib.rt:103:1
 returns-2 : tie.Need-returns-2
 unfolding lowest
 returns-2 c = sym (ap lowest (c .match .keys2))
 
--- src/lib.rt:103:1
 returns-3 : tie.Need-returns-3
 unfolding lowest
 returns-3 c = rw (ne-eqb _ 224 (c .match .rest .0 .1), ne-eqb _ 240 (c .match .rest .1))

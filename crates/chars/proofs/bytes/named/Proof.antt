@@ -6,47 +6,38 @@ use Rattle.chars.proofs.bytes.named.Tie as tie
 use Rattle.chars.proofs.bytes.named.Reads as reads
 use Rattle.chars.proofs.bytes.named.Lts as lts
 
--- src/lib.rt:86:1
 returns : tie.Need-returns
 unfolding named
 returns c = sym (ap named (c .match .keys1))
 
--- src/lib.rt:86:1
 returns-2 : tie.Need-returns-2
 unfolding named
 returns-2 c = sym (ap named (c .match .keys2))
 
--- src/lib.rt:86:1
 returns-3 : tie.Need-returns-3
 unfolding named
 returns-3 c = sym (ap named (c .match .keys3))
 
--- src/lib.rt:86:1
 returns-4 : tie.Need-returns-4
 unfolding named
 returns-4 c = sym (ap named (c .match .keys4))
 
--- src/lib.rt:86:1
 returns-5 : tie.Need-returns-5
 unfolding named
 returns-5 c = sym (ap named (c .match .keys5))
 
--- src/lib.rt:86:1
 returns-6 : tie.Need-returns-6
 unfolding named
 returns-6 c = sym (ap named (c .match .keys6))
 
--- src/lib.rt:86:1
 returns-7 : tie.Need-returns-7
 unfolding named
 returns-7 c = sym (ap named (c .match .keys7))
 
--- src/lib.rt:86:1
 returns-8 : tie.Need-returns-8
 unfolding named
 returns-8 c = sym (ap named (c .match .keys8))
 
--- src/lib.rt:86:1
 returns-9 : tie.Need-returns-9
 unfolding named
 returns-9 c = let r = c .match .rest in

@@ -6,15 +6,12 @@ use Rattle.chars.proofs.bytes.six_at.Lts as lts
 use Rattle.chars.proofs.bytes.peek.Reads as peek-reads
 use Rattle.chars.proofs.bytes.six_bits.Reads as six-bits-reads
 
--- src/lib.rt:148:14
 peek-requires : tie.Need-peek-requires
 peek-requires c κs = search needs
 
--- src/lib.rt:148:5
 six-bits-requires : tie.Need-six-bits-requires
 six-bits-requires c κs = search needs
 
--- src/lib.rt:144:1
 returns : tie.Need-returns
 returns c = cc
 

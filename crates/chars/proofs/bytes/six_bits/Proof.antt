@@ -9,25 +9,20 @@ use Rattle.chars.proofs.bytes.six_bits.Reads as reads
 use Rattle.chars.proofs.bytes.six_bits.Lts as lts
 use Rattle.chars.proofs.bytes.wide.Reads as wide-reads
 
--- src/lib.rt:129:9
 returns : tie.Need-returns
 unfolding sixBits
 returns c = rw (lt-leb _ _ (c .if1 .taken))
 
--- src/lib.rt:132:9
 returns-2 : tie.Need-returns-2
 unfolding sixBits
 returns-2 c = rw (le-leb _ _ (c .before .if1 .left), lt-leb _ _ (c .if2 .taken))
 
--- src/lib.rt:134:5
 wide-requires : tie.Need-wide-requires
 wide-requires c κs = search needs
 
--- src/lib.rt:134:5
 sub-result : tie.Need-sub-result
 sub-result c = search needs
 
--- src/lib.rt:124:1
 returns-3 : tie.Need-returns-3
 unfolding sixBits
 returns-3 c = rw (le-leb _ _ (c .before .before .if1 .left), le-leb _ _ (c .before .if2 .left)) (ap (λ (x : ℕ). x - 0x80) (c .wide .ensures))

@@ -11,49 +11,38 @@ use Rattle.chars.proofs.characters.unicode.Reads as unicode-reads
 use Rattle.chars.proofs.bytes.wide.Reads as wide-reads
 use Rattle.chars.proofs.characters.wrong.Reads as wrong-reads
 
--- src/lib.rt:227:24
 add-peek : tie.Need-add-peek
 add-peek c = search needs
 
--- src/lib.rt:227:9
 peek-requires : tie.Need-peek-requires
 peek-requires c κs = search needs
 
--- src/lib.rt:229:9
 unicode-requires : tie.Need-unicode-requires
 unicode-requires c κs = search needs
 
--- src/lib.rt:229:9
 returns : tie.Need-returns
 unfolding escapeAt
 returns c = rw (← c .before .before .peek .ensures, eq-eqb _ _ (c .before .if1 .taken)) (c .unicode .ensures)
 
--- src/lib.rt:231:9
 named-requires : tie.Need-named-requires
 named-requires c κs = search needs
 
--- src/lib.rt:233:28
 add-wrong : tie.Need-add-wrong
 add-wrong c = search needs
 
--- src/lib.rt:233:9
 wrong-requires : tie.Need-wrong-requires
 wrong-requires c κs = search needs
 
--- src/lib.rt:233:9
 returns-2 : tie.Need-returns-2
 unfolding escapeAt
 returns-2 c = rw (← c .before .before .before .before .peek .ensures, ne-eqb _ _ (c .before .before .before .if1 .left), ← c .before .before .named .ensures, eq-eqb _ _ (c .before .if2 .taken)) (c .wrong .ensures)
 
--- src/lib.rt:236:16
 wide-requires : tie.Need-wide-requires
 wide-requires c κs = search needs
 
--- src/lib.rt:237:15
 add-t5 : tie.Need-add-t5
 add-t5 c = search needs
 
--- src/lib.rt:223:1
 returns-3 : tie.Need-returns-3
 unfolding escapeAt
 returns-3 c = rw (← c .before .before .before .before .peek .ensures, ne-eqb _ _ (c .before .before .before .if1 .left), ← c .before .before .named .ensures, ne-eqb _ _ (c .before .if2 .left), c .wide .ensures)

@@ -7,45 +7,35 @@ use Rattle.chars.proofs.characters.hex_pair.Reads as reads
 use Rattle.chars.proofs.characters.hex_pair.Lts as lts
 use Rattle.chars.proofs.bytes.digit_at.Reads as digit-at-reads
 
--- src/lib.rt:156:9
 digit-at-requires : tie.Need-digit-at-requires
 digit-at-requires c κs = search needs
 
--- src/lib.rt:158:9
 returns : tie.Need-returns
 unfolding hexPair
 returns c = rw (← c .before .digit-at .ensures, lt-leb _ _ (c .if1 .taken))
 
--- src/lib.rt:160:28
 add-digit-at : tie.Need-add-digit-at
 add-digit-at c = search needs
 
--- src/lib.rt:160:9
 digit-at-requires-2 : tie.Need-digit-at-requires-2
 digit-at-requires-2 c κs = search needs
 
--- src/lib.rt:162:25
 add-t7 : tie.Need-add-t7
 add-t7 c = search needs
 
--- src/lib.rt:162:9
 returns-2 : tie.Need-returns-2
 unfolding hexPair
 returns-2 c = rw (← c .before .before .before .digit-at .ensures, le-leb _ _ (c .before .before .if1 .left), ← c .before .digit-at2 .ensures, lt-leb _ _ (c .if2 .taken))
 
--- src/lib.rt:164:16
 mul-t8 : tie.Need-mul-t8
 mul-t8 c = search needs
 
--- src/lib.rt:164:16
 add-t9 : tie.Need-add-t9
 add-t9 c = search needs
 
--- src/lib.rt:164:15
 cast-t10 : tie.Need-cast-t10
 cast-t10 c = search needs
 
--- src/lib.rt:152:1
 returns-3 : tie.Need-returns-3
 unfolding hexPair
 returns-3 c = rw (← c .before .before .before .digit-at .ensures, le-leb _ _ (c .before .before .if1 .left), ← c .before .digit-at2 .ensures, le-leb _ _ (c .if2 .left))

@@ -64,166 +64,127 @@ passed₄ c = (passed₃ (c .before .before), rw (← c .before .digit-at2 .ensu
 passed₅ : (c : tie.Else5) → at₅ P₅ c
 passed₅ c = (passed₄ (c .before), rw (← c .before .before .digit-at2 .ensures) (le-leb _ _ (c .if5 .left)))
 
--- src/lib.rt:172:8
 peek-requires : tie.Need-peek-requires
 peek-requires c κs = search needs
 
--- src/lib.rt:173:9
 stop-requires : tie.Need-stop-requires
 stop-requires c κs = search needs
 
--- src/lib.rt:173:9
 returns : tie.Need-returns
 unfolding partnerAt
 returns c = rw (← c .before .before .peek .ensures, ne-eqb _ _ (c .before .if1 .taken)) (c .stop .ensures)
 
--- src/lib.rt:175:19
 add-peek : tie.Need-add-peek
 add-peek c = search needs
 
--- src/lib.rt:175:8
 peek-requires-2 : tie.Need-peek-requires-2
 peek-requires-2 c κs = search needs
 
--- src/lib.rt:176:27
 add-stop : tie.Need-add-stop
 add-stop c = search needs
 
--- src/lib.rt:176:9
 stop-requires-2 : tie.Need-stop-requires-2
 stop-requires-2 c κs = search needs
 
--- src/lib.rt:176:9
 returns-2 : tie.Need-returns-2
 unfolding partnerAt
 returns-2 c = let p = passed₁ (c .before .before .before) in rw (p, ← c .before .before .peek2 .ensures, ne-eqb _ _ (c .before .if2 .taken)) (c .stop2 .ensures)
 
--- src/lib.rt:178:23
 add-digit-at : tie.Need-add-digit-at
 add-digit-at c = search needs
 
--- src/lib.rt:178:8
 digit-at-requires : tie.Need-digit-at-requires
 digit-at-requires c κs = search needs
 
--- src/lib.rt:179:27
 add-stop-2 : tie.Need-add-stop-2
 add-stop-2 c = search needs
 
--- src/lib.rt:179:9
 stop-requires-3 : tie.Need-stop-requires-3
 stop-requires-3 c κs = search needs
 
--- src/lib.rt:179:9
 returns-3 : tie.Need-returns-3
 unfolding partnerAt
 returns-3 c = let p = passed₂ (c .before .before .before) in rw (p .0, p .1, ← c .before .before .digit-at .ensures, ne-eqb _ _ (c .before .if3 .taken)) (c .stop3 .ensures)
 
--- src/lib.rt:181:28
 add-digit-at-2 : tie.Need-add-digit-at-2
 add-digit-at-2 c = search needs
 
--- src/lib.rt:181:9
 digit-at-requires-2 : tie.Need-digit-at-requires-2
 digit-at-requires-2 c κs = search needs
 
--- src/lib.rt:183:27
 add-stop-3 : tie.Need-add-stop-3
 add-stop-3 c = search needs
 
--- src/lib.rt:183:9
 stop-requires-4 : tie.Need-stop-requires-4
 stop-requires-4 c κs = search needs
 
--- src/lib.rt:183:9
 returns-4 : tie.Need-returns-4
 unfolding partnerAt
 returns-4 c = let p = passed₃ (c .before .before .before) in rw (p .0 .0, p .0 .1, p .1, ← c .before .before .digit-at2 .ensures, lt-leb _ _ (c .before .if4 .taken)) (c .stop4 .ensures)
 
--- src/lib.rt:186:27
 add-stop-4 : tie.Need-add-stop-4
 add-stop-4 c = search needs
 
--- src/lib.rt:186:9
 stop-requires-5 : tie.Need-stop-requires-5
 stop-requires-5 c κs = search needs
 
--- src/lib.rt:186:9
 returns-5 : tie.Need-returns-5
 unfolding partnerAt
 returns-5 c = let p = passed₄ (c .before .before) in rw (p .0 .0 .0, p .0 .0 .1, p .0 .1, p .1, ← c .before .before .before .digit-at2 .ensures, lt-leb _ _ (c .before .if5 .taken)) (c .stop5 .ensures)
 
--- src/lib.rt:188:26
 add-hex-pair : tie.Need-add-hex-pair
 add-hex-pair c = search needs
 
--- src/lib.rt:188:11
 hex-pair-requires : tie.Need-hex-pair-requires
 hex-pair-requires c κs = search needs
 
--- src/lib.rt:189:18
 enum-known-place : tie.Need-enum-known-place
 enum-known-place c = search needs
 
--- src/lib.rt:189:28
 wrong-requires : tie.Need-wrong-requires
 wrong-requires c κs = search needs
 
--- src/lib.rt:190:19
 enum-known-l : tie.Need-enum-known-l
 enum-known-l c = search needs
 
--- src/lib.rt:191:37
 wide-requires : tie.Need-wide-requires
 wide-requires c κs = search needs
 
--- src/lib.rt:191:30
 add-low : tie.Need-add-low
 add-low c = search needs
 
--- src/lib.rt:191:23
 mul-low : tie.Need-mul-low
 mul-low c = search needs
 
--- src/lib.rt:191:48
 cast-low : tie.Need-cast-low
 cast-low c = search needs
 
--- src/lib.rt:191:23
 add-low-2 : tie.Need-add-low-2
 add-low-2 c = search needs
 
--- src/lib.rt:193:43
 sub-t17 : tie.Need-sub-t17
 sub-t17 c = search needs
 
--- src/lib.rt:193:34
 mul-t20 : tie.Need-mul-t20
 mul-t20 c = search needs
 
--- src/lib.rt:193:24
 add-t19 : tie.Need-add-t19
 add-t19 c = search needs
 
--- src/lib.rt:193:61
 sub-t18 : tie.Need-sub-t18
 sub-t18 c = search needs
 
--- src/lib.rt:193:24
 add-t21 : tie.Need-add-t21
 add-t21 c = search needs
 
--- src/lib.rt:194:23
 add-t22 : tie.Need-add-t22
 add-t22 c = search needs
 
--- src/lib.rt:168:1
 returns-6 : tie.Need-returns-6
 unfolding partnerAt
 returns-6 c = let p = passed₅ (c .before .before .before .before .before) in
     rw (p .0 .0 .0 .0, p .0 .0 .0 .1, p .0 .0 .1, p .0 .1, p .1, ← c .before .before .before .before .hex-pair .ensures, c .before .before .place .given .1) (c .wrong .ensures)
 
--- src/lib.rt:168:1
 returns-7 : tie.Need-returns-7
 unfolding partnerAt
 returns-7 c = let p = passed₅ (c .before .before .before .before .before) in

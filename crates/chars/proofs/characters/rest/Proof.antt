@@ -11,61 +11,47 @@ use Rattle.chars.proofs.characters.hex_pair.Reads as hex-pair-reads
 use Rattle.chars.proofs.characters.partner.Reads as partner-reads
 use Rattle.chars.proofs.characters.wrong.Reads as wrong-reads
 
--- src/lib.rt:190:26
 add-hex-pair : tie.Need-add-hex-pair
 add-hex-pair c = search needs
 
--- src/lib.rt:190:11
 hex-pair-requires : tie.Need-hex-pair-requires
 hex-pair-requires c κs = search needs
 
--- src/lib.rt:191:18
 enum-known-place : tie.Need-enum-known-place
 enum-known-place c = search needs
 
--- src/lib.rt:191:28
 wrong-requires : tie.Need-wrong-requires
 wrong-requires c κs = search needs
 
--- src/lib.rt:192:19
 enum-known-l : tie.Need-enum-known-l
 enum-known-l c = search needs
 
--- src/lib.rt:193:25
 mul-value : tie.Need-mul-value
 mul-value c = search needs
 
--- src/lib.rt:193:48
 cast-value : tie.Need-cast-value
 cast-value c = search needs
 
--- src/lib.rt:193:25
 add-value : tie.Need-add-value
 add-value c = search needs
 
--- src/lib.rt:195:46
 add-partner : tie.Need-add-partner
 add-partner c = search needs
 
--- src/lib.rt:195:32
 partner-requires : tie.Need-partner-requires
 partner-requires c κs = search needs
 
--- src/lib.rt:198:27
 add-t16 : tie.Need-add-t16
 add-t16 c = search needs
 
--- src/lib.rt:186:1
 returns : tie.Need-returns
 unfolding restAt
 returns c = rw (← c .before .before .before .before .hex-pair .ensures, c .before .before .place .given .1) (c .wrong .ensures)
 
--- src/lib.rt:186:1
 returns-2 : tie.Need-returns-2
 unfolding restAt
 returns-2 c = rw (← c .before .before .before .before .before .before .hex-pair .ensures, c .before .before .before .before .l .given .1, le-leb _ _ (c .before .before .if1 .left), le-leb (c .before .before .before .before .before .before .before .before .args .first) 0xDB (omega arith)) (c .partner .ensures)
 
--- src/lib.rt:186:1
 returns-3 : tie.Need-returns-3
 unfolding restAt
 returns-3 c = ⊎-elim (λ w. rw (← c .before .before .before .before .hex-pair .ensures, c .before .before .l .given .1, lt-leb _ _ (w .taken)))

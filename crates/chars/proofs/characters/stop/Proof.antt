@@ -5,12 +5,10 @@ use Rattle.chars.proofs.characters.stop.Tie as tie
 use Rattle.chars.proofs.characters.stop.Reads as reads
 use Rattle.chars.proofs.characters.stop.Lts as lts
 
--- src/lib.rt:42:1
 returns : tie.Need-returns
 unfolding stopAt
 returns c = rw (lt-ltb _ _ (c .if1 .taken))
 
--- src/lib.rt:42:1
 returns-2 : tie.Need-returns-2
 unfolding stopAt
 returns-2 c = rw (le-ltb _ _ (c .if1 .left))

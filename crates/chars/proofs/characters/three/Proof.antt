@@ -12,85 +12,65 @@ use Rattle.chars.proofs.bytes.six_at.Reads as six-at-reads
 use Rattle.chars.proofs.characters.stop.Reads as stop-reads
 use Rattle.chars.proofs.bytes.wide.Reads as wide-reads
 
--- src/lib.rt:275:26
 add-six-at : tie.Need-add-six-at
 add-six-at c = search needs
 
--- src/lib.rt:275:34
 lowest-requires : tie.Need-lowest-requires
 lowest-requires c κs = search needs
 
--- src/lib.rt:275:45
 highest-requires : tie.Need-highest-requires
 highest-requires c κs = search needs
 
--- src/lib.rt:275:9
 six-at-requires : tie.Need-six-at-requires
 six-at-requires c κs = rw (c .before .lowest .ensures) (lowest-least _)
 
--- src/lib.rt:277:27
 add-stop : tie.Need-add-stop
 add-stop c = search needs
 
--- src/lib.rt:277:9
 stop-requires : tie.Need-stop-requires
 stop-requires c κs = search needs
 
--- src/lib.rt:277:9
 returns : tie.Need-returns
 unfolding threeAt
 returns c = rw (← c .before .before .before .before .lowest .ensures, ← c .before .before .before .highest .ensures, ← c .before .before .six-at .ensures, lt-leb _ _ (c .before .if1 .taken)) (c .stop .ensures)
 
--- src/lib.rt:279:26
 add-six-at-2 : tie.Need-add-six-at-2
 add-six-at-2 c = search needs
 
--- src/lib.rt:279:9
 six-at-requires-2 : tie.Need-six-at-requires-2
 six-at-requires-2 c κs = search needs
 
--- src/lib.rt:281:27
 add-stop-2 : tie.Need-add-stop-2
 add-stop-2 c = search needs
 
--- src/lib.rt:281:9
 stop-requires-2 : tie.Need-stop-requires-2
 stop-requires-2 c κs = search needs
 
--- src/lib.rt:281:9
 returns-2 : tie.Need-returns-2
 unfolding threeAt
 returns-2 c = rw (← c .before .before .before .before .before .before .lowest .ensures, ← c .before .before .before .before .before .highest .ensures, ← c .before .before .before .before .six-at .ensures, le-leb _ _ (c .before .before .before .if1 .left), ← c .before .before .six-at2 .ensures, lt-leb _ _ (c .before .if2 .taken)) (c .stop2 .ensures)
 
--- src/lib.rt:284:24
 wide-requires : tie.Need-wide-requires
 wide-requires c κs = search needs
 
--- src/lib.rt:284:24
 sub-t13 : tie.Need-sub-t13
 sub-t13 c = search needs
 
--- src/lib.rt:284:16
 mul-t14 : tie.Need-mul-t14
 mul-t14 c = search needs
 
--- src/lib.rt:284:42
 mul-t15 : tie.Need-mul-t15
 mul-t15 c = search needs
 
--- src/lib.rt:284:16
 add-t16 : tie.Need-add-t16
 add-t16 c = search needs
 
--- src/lib.rt:284:16
 add-t17 : tie.Need-add-t17
 add-t17 c = search needs
 
--- src/lib.rt:285:15
 add-t6 : tie.Need-add-t6
 add-t6 c = search needs
 
--- src/lib.rt:271:1
 returns-3 : tie.Need-returns-3
 unfolding threeAt
 returns-3 c = rw (← c .before .before .before .before .before .before .lowest .ensures, ← c .before .before .before .before .before .highest .ensures, ← c .before .before .before .before .six-at .ensures, le-leb _ _ (c .before .before .before .if1 .left), ← c .before .before .six-at2 .ensures, le-leb _ _ (c .before .if2 .left), c .wide .ensures)

@@ -9,48 +9,37 @@ use Rattle.chars.proofs.bytes.six_at.Reads as six-at-reads
 use Rattle.chars.proofs.characters.stop.Reads as stop-reads
 use Rattle.chars.proofs.bytes.wide.Reads as wide-reads
 
--- src/lib.rt:261:26
 add-six-at : tie.Need-add-six-at
 add-six-at c = search needs
 
--- src/lib.rt:261:9
 six-at-requires : tie.Need-six-at-requires
 six-at-requires c κs = search needs
 
--- src/lib.rt:263:27
 add-stop : tie.Need-add-stop
 add-stop c = search needs
 
--- src/lib.rt:263:9
 stop-requires : tie.Need-stop-requires
 stop-requires c κs = search needs
 
--- src/lib.rt:263:9
 returns : tie.Need-returns
 unfolding twoAt
 returns c = rw (← c .before .before .six-at .ensures, lt-leb _ _ (c .before .if1 .taken)) (c .stop .ensures)
 
--- src/lib.rt:266:22
 wide-requires : tie.Need-wide-requires
 wide-requires c κs = search needs
 
--- src/lib.rt:266:22
 sub-t9 : tie.Need-sub-t9
 sub-t9 c = search needs
 
--- src/lib.rt:266:16
 mul-t10 : tie.Need-mul-t10
 mul-t10 c = search needs
 
--- src/lib.rt:266:16
 add-t11 : tie.Need-add-t11
 add-t11 c = search needs
 
--- src/lib.rt:267:15
 add-t5 : tie.Need-add-t5
 add-t5 c = search needs
 
--- src/lib.rt:257:1
 returns-2 : tie.Need-returns-2
 unfolding twoAt
 returns-2 c = rw (← c .before .before .six-at .ensures, le-leb _ _ (c .before .if1 .left), c .wide .ensures)

@@ -11,45 +11,35 @@ use Rattle.chars.proofs.characters.hex_pair.Reads as hex-pair-reads
 use Rattle.chars.proofs.characters.rest.Reads as rest-reads
 use Rattle.chars.proofs.characters.wrong.Reads as wrong-reads
 
--- src/lib.rt:210:26
 add-hex-pair : tie.Need-add-hex-pair
 add-hex-pair c = search needs
 
--- src/lib.rt:210:11
 hex-pair-requires : tie.Need-hex-pair-requires
 hex-pair-requires c κs = search needs
 
--- src/lib.rt:211:18
 enum-known-place : tie.Need-enum-known-place
 enum-known-place c = search needs
 
--- src/lib.rt:211:28
 wrong-requires : tie.Need-wrong-requires
 wrong-requires c κs = search needs
 
--- src/lib.rt:212:19
 enum-known-first : tie.Need-enum-known-first
 enum-known-first c = search needs
 
--- src/lib.rt:215:24
 add-t10 : tie.Need-add-t10
 add-t10 c = search needs
 
--- src/lib.rt:217:18
 rest-requires : tie.Need-rest-requires
 rest-requires c κs = search needs
 
--- src/lib.rt:206:1
 returns : tie.Need-returns
 unfolding unicodeAt
 returns c = rw (← c .before .before .before .before .hex-pair .ensures, c .before .before .place .given .1) (c .wrong .ensures)
 
--- src/lib.rt:206:1
 returns-2 : tie.Need-returns-2
 unfolding unicodeAt
 returns-2 c = rw (← c .before .before .before .before .before .hex-pair .ensures, c .before .before .before .first .given .1, le-leb _ _ (c .before .if1 .left), le-leb (c .before .before .before .first .given .0 .0) 0xDF (omega arith))
 
--- src/lib.rt:206:1
 returns-3 : tie.Need-returns-3
 unfolding unicodeAt
 returns-3 c = ⊎-elim (λ w. rw (← c .before .before .before .before .before .hex-pair .ensures, c .before .before .before .first .given .1, lt-leb _ _ (w .taken)) (c .rest .ensures))

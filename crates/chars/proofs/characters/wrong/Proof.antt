@@ -8,19 +8,15 @@ use Rattle.chars.proofs.bytes.code_of.Reads as code-of-reads
 use Rattle.chars.proofs.bytes.peek.Reads as peek-reads
 use Rattle.chars.proofs.characters.stop.Reads as stop-reads
 
--- src/lib.rt:69:9
 peek-requires : tie.Need-peek-requires
 peek-requires c κs = search needs
 
--- src/lib.rt:70:20
 code-of-requires : tie.Need-code-of-requires
 code-of-requires c κs = search needs
 
--- src/lib.rt:70:5
 stop-requires : tie.Need-stop-requires
 stop-requires c κs = search needs
 
--- src/lib.rt:66:1
 returns : tie.Need-returns
 unfolding wrongAt
 returns c = cc
