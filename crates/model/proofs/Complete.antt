@@ -10,6 +10,7 @@ use Rattle.model.specs.Value.{IsJson}
 use Rattle.model.specs.Definition.{Named, JSON, Schema, Float, Integer, String, Boolean, DateTime, Def, named, array-of, map-of}
 use Rattle.model.specs.Definition.{object-of, Fields, fnil, fcons, hasField}
 use Rattle.model.specs.Meeting.{IfArray, IfObject, meetsNamed, HasNames, Meets, FieldsMeet}
+use Rattle.model.specs.Carried.{NotCarried}
 use Rattle.model.specs.Subtype.{is, subtypeNamed, ofObjects, other, under, requires, requiresAll, subtype, subtypeFields}
 use Rattle.model.specs.Witness.{plain, apart, sample, kept, ownRun, fresh, others, beyondNamed, witness, witnessFields}
 use Rattle.model.proofs.Basics.{and-false, clash, false-of, both, by-test}
@@ -20,9 +21,6 @@ use Rattle.model.proofs.Samples.{fresh-text, fresh-under, other-formed,
 -- v is a JSON value that meets a and fails b
 abbrev pub Works : Def → Def → Value → Type 0
 Works a b v = IsJson v × Meets a v × (¬ Meets b v)
-
-abbrev pub Witness : Def → Def → Type 0
-Witness a b = (v : Value) × IsJson v × Meets a v × (¬ Meets b v)
 
 -- ---- the named types
 abbrev every : (Named → Bool) → Bool
@@ -216,5 +214,5 @@ mutual
         λ m. x .2 (f (mcons n w (others a n)) m .0 w (inl (refl, refl))),
       ))
 
-pub complete : (b a : Def) → WellFormed b → WellFormed a → subtype a b ≡ false → Witness a b
+pub complete : (b a : Def) → WellFormed b → WellFormed a → subtype a b ≡ false → NotCarried a b
 complete b a l k h = let x = witness-works b a l k h in (witness a b, x .0, x .1, x .2)

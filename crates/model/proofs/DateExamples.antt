@@ -1,4 +1,4 @@
--- Worked examples of dates, computed.
+-- Worked examples of dates, computed. Those of 01's table are in `Starred`.
 use Prim.Native.String.{String}
 use mathlib.Core.Path.{_≡_, refl}
 use mathlib.Core.Bool.{Bool, true, not, _&&_}
@@ -14,18 +14,6 @@ dates (s ∷ ss) = isDate (text s) && dates ss
 abbrev others : List String → Bool
 others [] = true
 others (s ∷ ss) = not (isDate (text s)) && others ss
-
--- 01, "The table of examples": the rows marked *, and then the others
-starred :
-    (dates ("2024-04-30T23:59:59.5+02:00" ∷ "0000-02-29T00:00:00z" ∷ []) ≡ true)
-    × (others ("2024-04-31T08:00:00Z" ∷ "1900-02-29T00:00:00Z" ∷ []) ≡ true)
-starred = (refl, refl)
-
-rows :
-    others
-    ("2024-04-30" ∷ "2024-04-30 08:00:00Z" ∷ "2024-04-30T24:00:00Z" ∷ "2024-04-30T08:00:00+24:00" ∷ "2024-04-30T00:00:00.Z" ∷ [])
-    ≡ true
-rows = refl
 
 -- RFC 3339, section 5.8, without its leap seconds
 published :

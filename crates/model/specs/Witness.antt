@@ -1,9 +1,4 @@
 -- For the theorem of Compare and for tests: a value that meets the new definition and fails the old one, where the new is not carried to the old. That it does is proofs/Complete.antt.
--- Its size: each required field of the new definition gives at most one member, and each Object or Map on the way to what fails one more.
--- That one's name is from the old definition, or is of 'a's, at most one more than the longest name beside it has characters.
--- The longest value at an end is DateTime's: 22 bytes for the 10 that a schema spends on it.
--- So it takes at most 2.2 times the bytes of the new schema and once those of the old one's names, where each character is written in its shortest form:
--- less than 52,429 for schemas of 16,384. At most one bracket more is open at once than in the new schema.
 use Prim.Native.Nat.{ℕ, suc, max}
 use mathlib.Core.Bool.{Bool, true, not, cond, _&&_}
 use mathlib.Core.List.{List, [], _∷_}
