@@ -18,7 +18,7 @@ use Rattle.schema.specs.Located.{Located, plain}
 use Rattle.schema.specs.Check.{readSchema, Accepted, not-accepted, accepted, acceptAnswer, accept}
 use Rattle.schema.specs.Compare.{Schema, Compared, Compares, compareTable}
 use Rattle.schema.specs.Comparing.{DefinedRow, Pairing, Decided}
-use Rattle.schema.proofs.Defining.{some-defined}
+use Rattle.schema.proofs.Defining.{defined-plain, some-defined}
 use Rattle.schema.proofs.CheckZero.{Takes, Way, accept-way}
 use Rattle.schema.proofs.Accepting.{HasRead, has-rows}
 
@@ -29,6 +29,10 @@ schema-takes : {w : ℕ} {s : List ℕ} {d : Def} → Schema w s d → (e : Loca
 schema-takes {s = s} {d = d} h =
     let x = some-defined s (h .tree) d (h .defines) in
     (x .0, record { tree = h .tree; read = h .read; defines = x .1 }, x .2)
+
+-- and its value is that definition
+takes-schema : {w : ℕ} {s : List ℕ} {e : Located} → Takes w s e → Schema w s (plain e)
+takes-schema {s = s} {e = e} h = record { tree = h .tree; read = h .read; defines = defined-plain s (h .tree) e (h .defines) }
 
 -- it is not accepted: a is the answer
 record Refused (which w : ℕ) (s : List ℕ) (a : Answer) : Type 0 where
@@ -81,7 +85,7 @@ unfolding compareTable
 new-refused s₁ s₂ t₁ t₂ {a} q x n =
     let f = refused q n in
     let i : accept 1 (length t₁) s₁ ≡ not-accepted a = f .is in
-    (record { refuses = rw i refl; compares = λ d e y z. absurd (f .none d y) }, (x, rw i refl))
+    (record { answers = rw i refl; compares = λ d e y z. absurd (f .none d y) }, (x, rw i refl))
 
 -- the new one is accepted
 pub record NewAccepted (s₁ t₁ u₁ : List ℕ) : Type 0 where
@@ -102,7 +106,7 @@ pub old-refused : {s₁ t₁ u₁ : List ℕ} (s₂ t₂ : List ℕ) {b : Answer
 old-refused s₂ t₂ {b} n r y z =
     let f = refused r z in
     let i : accept 2 (length t₂) s₂ ≡ not-accepted b = f .is in
-    (record { refuses = rw (n .accepts .is, i) refl; compares = λ d e v w. absurd (f .none e w) }, (n .rows, old-table s₂ t₂ n y))
+    (record { answers = rw (n .accepts .is, i) refl; compares = λ d e v w. absurd (f .none e w) }, (n .rows, old-table s₂ t₂ n y))
 
 -- both are accepted
 pub record BothAccepted (s₁ s₂ t₁ t₂ u₁ u₂ : List ℕ) : Type 0 where
@@ -143,7 +147,9 @@ module _ {s₁ s₂ t₁ t₂ u₁ u₂ : List ℕ} (h : BothAccepted s₁ s₂ 
         (sym (told ∙ ap₂ subtype x y), decided (valueOf s₁ (f .tree)) (valueOf s₂ (g .tree)) (schema-json f) (schema-json g) d e (f .defines) (g .defines))
 
     promised : {r : Answer} → ((d e : Def) → Schema (length t₁) s₁ d → Schema (length t₂) s₂ e → Compared d e r) → Promised s₁ s₂ t₁ t₂ r u₁ u₂
-    promised f = (record { refuses = rw (h .new .accepts .is, h .accepts .is) tt; compares = f }, (h .new .rows, old-table s₂ t₂ (h .new) (h .rows)))
+    promised f =
+        let k = f new-definition old-definition (takes-schema (h .new .accepts .takes)) (takes-schema (h .accepts .takes)) in
+        (record { answers = rw (h .new .accepts .is, h .accepts .is) k; compares = f }, (h .new .rows, old-table s₂ t₂ (h .new) (h .rows)))
 
     pub compare-carried : {r : Answer} → c ≡ true → r ≡ answer 0 0 0 0 → Promised s₁ s₂ t₁ t₂ r u₁ u₂
     compare-carried z i = promised (λ d e f g. (let m = decides d e f g in inl (i, m .1 .carried (m .0 ∙ z))))
