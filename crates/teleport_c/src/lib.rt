@@ -1,10 +1,11 @@
 // The library for callers in other languages: a slice is a pointer and a length.
 ghost use mathlib.Core.Path.{_≡_};
+ghost use mathlib.Core.Logic.{_↔_};
 ghost use lib.ListN.{length};
 ghost use Rattle.reader.specs.Answer.{documentLimits, readWithin, answerOf, tableOf};
-ghost use Rattle.schema.specs.Check.{readSchema, checkAnswer, checkTable};
+ghost use Rattle.schema.specs.Check.{readSchema, checkAnswer, checkTable, Meeting};
 ghost use Rattle.schema.specs.Compare.{Compares, compareTable};
-ghost use Rattle.teleport_c.specs.Words.{answerWords, Written};
+ghost use Rattle.teleport_c.specs.Words.{answerWords, code, Written};
 
 // The four numbers of an answer.
 fn words(a: reader::Answer) -> [u32; 4]
@@ -34,6 +35,7 @@ pub extern "C" fn teleport_check(
     ensures answers { λ _. ⌜ now (answer .exit) ≡ answerWords (checkAnswer (length (now (table1 .entry))) (length (now (table2 .entry))) (now (document .entry)) (now (schema .entry))) ⌝ }
     ensures rows1 { λ _. ⌜ now (table1 .exit) ≡ checkTable (now (table1 .entry)) (length (now (table2 .entry))) (now (document .entry)) (now (schema .entry)) ⌝ }
     ensures rows2 { λ _. ⌜ now (table2 .exit) ≡ tableOf (now (table2 .entry)) (readSchema (now (schema .entry))) ⌝ }
+    ensures meets { λ _. ⌜ (code (now (answer .exit)) ≡ 0) ↔ Meeting (length (now (table1 .entry))) (length (now (table2 .entry))) (now (document .entry)) (now (schema .entry)) ⌝ }
 {
     *answer = words(schema::check(document, schema, table1, table2));
 }

@@ -20,7 +20,7 @@ same-length-2 c = search needs
 returns : tie.Need-returns
 returns c =
     let r = c .before .before .before .before .before .check .ensures in
-    (c .words .ensures ∙ ap answerWords (r .0), (r .1 .0, r .1 .1 .0))
+    (c .words .ensures ∙ ap answerWords (r .0), (r .1 .0, (r .1 .1 .0, rw (c .words .ensures) (r .1 .1 .1))))
 
 pub teleport-check-spec : {M : Type 1} → statement M
 teleport-check-spec = tie.close (tie.spec check-requires words-requires same-length same-length-2 returns)
