@@ -81,7 +81,7 @@ beyondNamed (array-of d) = array vnil
 beyondNamed (map-of d) = object mnil
 beyondNamed (object-of r o) = withMember (object-of r o) (fresh (object-of r o)) null
 
--- a value that meets the new definition, the first, and where that is not carried fails the old one
+-- where the new definition, the first, is not carried to the old one: a value that meets the new and fails the old
 abbrev mutual
   pub witness : Def → Def → Value
   witness a (named t) = beyondNamed a

@@ -16,11 +16,26 @@ use Rattle.reader.specs.declared.answers.Answer.{Answer}
 use Rattle.reader.proofs.Theorems.{read-json}
 use Rattle.schema.specs.Located.{Located, plain}
 use Rattle.schema.specs.Check.{readSchema, Accepted, not-accepted, accepted, acceptAnswer, accept}
-use Rattle.schema.specs.Compare.{Schema, Compared, Compares, compareTable}
+use Rattle.schema.specs.Compare.{Schema, Compared, Answers, Compares, compareTable}
 use Rattle.schema.specs.Comparing.{DefinedRow, Pairing, Decided}
 use Rattle.schema.proofs.Defining.{defined-plain, some-defined}
 use Rattle.schema.proofs.CheckZero.{Takes, Way, accept-way}
 use Rattle.schema.proofs.Accepting.{HasRead, has-rows}
+
+-- ---- the promise determines the answer
+compared-one : (a b : Def) {r q : Answer} → Compared a b r → Compared a b q → r ≡ q
+compared-one a b (inl x) (inl y) = x .0 ∙ sym (y .0)
+compared-one a b (inl x) (inr y) = absurd (y .1 .3 (x .1 (y .1 .0) (y .1 .1) (y .1 .2)))
+compared-one a b (inr x) (inl y) = absurd (x .1 .3 (y .1 (x .1 .0) (x .1 .1) (x .1 .2)))
+compared-one a b (inr x) (inr y) = x .0 ∙ sym (y .0)
+
+answers-one : (x y : Accepted) {r q : Answer} → Answers x y r → Answers x y q → r ≡ q
+answers-one (not-accepted a) y h k = h ∙ sym k
+answers-one (accepted d) (not-accepted a) h k = h ∙ sym k
+answers-one (accepted d) (accepted e) h k = compared-one (plain d) (plain e) h k
+
+pub one-answer : {w₁ w₂ : ℕ} {new old : List ℕ} {r q : Answer} → Compares w₁ w₂ new old r → Compares w₁ w₂ new old q → r ≡ q
+one-answer {w₁} {w₂} {new} {old} h k = answers-one (accept 1 w₁ new) (accept 2 w₂ old) (h .answers) (k .answers)
 
 -- ---- one schema
 
@@ -30,7 +45,7 @@ schema-takes {s = s} {d = d} h =
     let x = some-defined s (h .tree) d (h .defines) in
     (x .0, record { tree = h .tree; read = h .read; defines = x .1 }, x .2)
 
--- and its value is that definition
+-- and the value that it spells has that definition, without places
 takes-schema : {w : ℕ} {s : List ℕ} {e : Located} → Takes w s e → Schema w s (plain e)
 takes-schema {s = s} {e = e} h = record { tree = h .tree; read = h .read; defines = defined-plain s (h .tree) e (h .defines) }
 

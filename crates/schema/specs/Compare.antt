@@ -29,7 +29,7 @@ Answers (not-accepted a) x r = r ≡ a
 Answers (accepted d) (not-accepted a) r = r ≡ a
 Answers (accepted d) (accepted e) r = Compared (plain d) (plain e) r
 
--- the promise of the answer r, for schemas with tables of w₁ and w₂ words: `answers` determines it for all bytes; `compares` says the same of two accepted schemas by the values that they spell
+-- the promise of the answer r, for schemas with tables of w₁ and w₂ words: `answers` leaves one for all bytes (`one-answer` of proofs/Compared.antt); `compares` says it of the values that two accepted texts spell
 pub record Compares (w₁ w₂ : ℕ) (new old : List ℕ) (r : Answer) : Type 0 where
   pub answers : Answers (accept 1 w₁ new) (accept 2 w₂ old) r
   pub compares : (a b : Def) → Schema w₁ new a → Schema w₂ old b → Compared a b r
