@@ -1,7 +1,7 @@
 -- What the crates above cite: tests, strings, digits, hashed names, runs, and values that hold no other.
 pub use Rattle.chars.proofs.bytes.Laws.{both, and-ways, in-text}
 pub use Rattle.chars.proofs.strings.Laws.{ScanAhead, string-ahead, string-close, string-bounds, chars-char, chars-none}
-pub use Rattle.chars.proofs.strings.Meaning.{same-refl, same-true}
+pub use Rattle.chars.proofs.strings.Meaning.{same-true}
 pub use Rattle.chars.proofs.plain.Laws.{digit-read}
 pub use Rattle.chars.proofs.hashing.Laws.{hash-small, name-hashed, name-broken}
 pub use Rattle.chars.proofs.space.Laws.{run-end, run-next, run-stop, run-from, run-within}

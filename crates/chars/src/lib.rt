@@ -21,8 +21,6 @@ pub use scalars::scalar;
 pub use scalars::whole_end;
 pub use space::skip;
 pub use strings::Scan;
-pub use strings::apart;
-pub use strings::equal;
 pub use strings::same_name;
 pub use strings::string_end;
 pub use tokens::Token;

@@ -7,9 +7,9 @@ use crate::plain::is_plain;
 use crate::plain::plain;
 use crate::wide::wides;
 ghost use mathlib.Core.Path.{_≡_};
-ghost use mathlib.Core.Bool.{true, false};
 ghost use Rattle.model.specs.Text.{same};
 ghost use Rattle.chars.specs.Strings.{stringAt, characters};
+ghost use Rattle.chars.specs.Plain.{isApart};
 
 // Where a string ends: behind its closing quote.
 pub enum Scan {
@@ -41,9 +41,9 @@ pub fn string_end(text: &[u8], at: usize) -> Scan
     }
 }
 
-// The bytes are the same, and so are the characters.
-pub fn equal(a: &[u8], b: &[u8]) -> bool
-    ensures { λ r. ⌜ (r ≡ true → same (characters (now (a .entry))) (characters (now (b .entry))) ≡ true) ⌝ }
+// Whether two names have the same bytes.
+fn equal(a: &[u8], b: &[u8]) -> bool
+    ensures { λ r. ⌜ r ≡ same (now (a .entry)) (now (b .entry)) ⌝ }
 {
     let n = a.len();
     if b.len() != n {
@@ -59,9 +59,9 @@ pub fn equal(a: &[u8], b: &[u8]) -> bool
     true
 }
 
-// Whether two names begin with different bytes that stand for themselves, so that they are not the same.
-pub fn apart(a: &[u8], b: &[u8]) -> bool
-    ensures { λ r. ⌜ (r ≡ true → same (characters (now (a .entry))) (characters (now (b .entry))) ≡ false) ⌝ }
+// Whether two names begin with different bytes that stand for themselves.
+fn apart(a: &[u8], b: &[u8]) -> bool
+    ensures { λ r. ⌜ r ≡ isApart (now (a .entry)) (now (b .entry)) ⌝ }
 {
     let x = peek(a, 0);
     if !is_plain(x) {
@@ -74,10 +74,13 @@ pub fn apart(a: &[u8], b: &[u8]) -> bool
     is_plain(y)
 }
 
-// Whether two names, each as the bytes between its quotes, have the same characters.
+// Whether two names, each as the bytes between its quotes, have the same characters. Most are told by their first bytes, or have the same bytes.
 pub fn same_name(a: &[u8], b: &[u8]) -> bool
     ensures { λ r. ⌜ r ≡ same (characters (now (a .entry))) (characters (now (b .entry))) ⌝ }
 {
+    if apart(a, b) {
+        return false;
+    }
     if equal(a, b) {
         return true;
     }

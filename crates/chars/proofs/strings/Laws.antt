@@ -139,7 +139,3 @@ shorter e g = rw (e, g)
 
 pub ended : {p q : List ℕ} → p ≡ [] → q ≡ [] → same p q ≡ true
 ended e g = rw (e, g)
-
--- what follows from `false` being `true`
-pub not-so : {A : Type 0} → false ≡ true → A
-not-so e = absurd (let z : _≡_ {A = ℕ} 0 1 = cc in omega arith)

@@ -1,32 +1,33 @@
 -- What the definitions mean: names are the same when their characters are, and characters are Unicode scalar values.
-use mathlib.Core.Path.{_≡_, refl}
+use mathlib.Core.Path.{_≡_, refl, ap}
 use mathlib.Core.List.{List, [], _∷_}
-use mathlib.Core.Bool.{true}
+use mathlib.Core.Bool.{true, false}
 use Prim.Native.Nat.{ℕ, zero, suc, _-_}
 use native.Mathlib.Omega.{arith}
 use lib.ListN.{length}
 use lib.Dec.{eqb}
-use borrow.Author.Tests.{eq-eqb, eqb-true}
+use borrow.Author.Tests.{eqb-true}
 use Rattle.chars.specs.declared.characters.Step.{Step}
 use Rattle.chars.specs.declared.characters.Step.the-variants.{Char, Quote, Refused}
 use Rattle.chars.specs.Characters.{charAt}
 use Rattle.chars.specs.Strings.{spell, charsFrom, charsAt, characters}
 use Rattle.model.specs.Text.{same}
+use Rattle.model.proofs.Basics.{same-of, by-test}
 use Rattle.chars.proofs.bytes.Laws.{and-ways}
 use Rattle.chars.proofs.characters.Laws.{Scalar, Ahead, char-ahead}
-
-pub same-refl : (xs : List ℕ) → same xs xs ≡ true
-same-refl [] = refl
-same-refl (x ∷ xs) = rw (eq-eqb x x refl) (same-refl xs)
-
-pub same-names : (a b : List ℕ) → a ≡ b → same (characters a) (characters b) ≡ true
-same-names a b e = rw e (same-refl (characters b))
 
 pub same-true : (xs ys : List ℕ) → same xs ys ≡ true → xs ≡ ys
 same-true [] [] t = refl
 same-true [] (y ∷ ys) t = let z : _≡_ {A = ℕ} 0 1 = cc in absurd (omega arith)
 same-true (x ∷ xs) [] t = let z : _≡_ {A = ℕ} 0 1 = cc in absurd (omega arith)
 same-true (x ∷ xs) (y ∷ ys) t = and-ways (eqb x y) (same xs ys) t (λ u v. let e : x ≡ y = eqb-true x y u in let r : xs ≡ ys = same-true xs ys v in cc)
+
+pub other-of : (xs ys : List ℕ) → (xs ≡ ys → ⊥) → same xs ys ≡ false
+other-of xs ys n = by-test (same xs ys) (λ t. absurd (n (same-true xs ys t))) (λ t. t)
+
+-- names of the same bytes have the same characters
+pub same-names : (a b : List ℕ) → same a b ≡ true → same (characters a) (characters b) ≡ true
+same-names a b t = same-of (characters a) (characters b) (ap characters (same-true a b t))
 
 abbrev pub Scalars : List ℕ → Type 0
 Scalars [] = Unit

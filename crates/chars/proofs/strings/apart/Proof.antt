@@ -1,9 +1,7 @@
--- `chars::strings::apart` meets its contract: two plain bytes are the first characters of the names.
-use mathlib.Core.Path.{sym, _∙_}
+-- `chars::strings::apart` meets its contract: each way out by the tests before it.
 use borrow.Author.Needs.{needs}
-use borrow.Author.Tests.{not-false}
-use Rattle.chars.proofs.plain.Laws.{plain-apart}
-use Rattle.chars.proofs.strings.Laws.{not-so}
+use borrow.Author.Tests.{eq-eqb, ne-eqb, not-true, not-false}
+use Rattle.chars.specs.Plain.{isApart}
 use Rattle.chars.proofs.strings.apart.Statement.{statement}
 use Rattle.chars.proofs.strings.apart.Tie as tie
 
@@ -14,22 +12,31 @@ is-plain-requires : tie.Need-is-plain-requires
 is-plain-requires c κs = search needs
 
 returns : tie.Need-returns
-returns c = not-so
+unfolding isApart
+returns c = rw (← c .before .before .peek .ensures, ← c .before .is-plain .ensures, not-true (c .before .is-plain .result) (c .if1 .taken))
 
 peek-requires-2 : tie.Need-peek-requires-2
 peek-requires-2 c κs = search needs
 
 returns-2 : tie.Need-returns-2
-returns-2 c = not-so
+unfolding isApart
+returns-2 c =
+    let d = c .before .before in
+    let x = d .before .before .peek in
+    let y = c .before .peek2 in
+    rw (← x .ensures, ← y .ensures, ← d .before .is-plain .ensures, not-false (d .before .is-plain .result) (d .if1 .left), eq-eqb (x .result) (y .result) (c .if2 .taken))
 
 is-plain-requires-2 : tie.Need-is-plain-requires-2
 is-plain-requires-2 c κs = search needs
 
 returns-3 : tie.Need-returns-3
-returns-3 c e =
+unfolding isApart
+returns-3 c =
     let d = c .before .before .before in
-    plain-apart _ _ (d .before .before .peek .ensures) (c .before .before .peek2 .ensures) (c .before .if2 .left)
-    (sym (d .before .is-plain .ensures) ∙ not-false _ (d .if1 .left)) (sym (c .is-plain2 .ensures) ∙ e)
+    let x = d .before .before .peek in
+    let y = c .before .before .peek2 in
+    rw (← x .ensures, ← y .ensures, ← d .before .is-plain .ensures, not-false (d .before .is-plain .result) (d .if1 .left), ne-eqb (x .result) (y .result) (c .before .if2 .left))
+    (c .is-plain2 .ensures)
 
 pub apart-spec : {M : Type 1} → statement M
 apart-spec =

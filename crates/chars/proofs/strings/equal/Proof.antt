@@ -1,14 +1,15 @@
 -- `chars::strings::equal` meets its contract. The loop's invariant: the bytes are the same at each place passed.
 use Prim.Native.Nat.{ℕ, _≤_, _<_, _-_}
-use mathlib.Core.Path.{_≡_}
+use mathlib.Core.Path.{_≡_, sym, ap}
+use mathlib.Core.List.{List}
 use native.Mathlib.Omega.{arith}
 use borrow.Author.Count.{below-more}
 use borrow.Author.Needs.{needs}
 use denote.Ref.{now}
-use lib.ListN.{getD}
+use lib.ListN.{length, getD}
 use lib.Seq.{ext-getD}
-use Rattle.chars.proofs.strings.Laws.{not-so}
-use Rattle.chars.proofs.strings.Meaning.{same-names}
+use Rattle.model.proofs.Basics.{same-of}
+use Rattle.chars.proofs.strings.Meaning.{other-of}
 use Rattle.chars.proofs.strings.equal.Statement.{statement}
 use Rattle.chars.proofs.strings.equal.Tie as tie
 
@@ -18,12 +19,18 @@ Inv-loop a b n i₀ i = (i ≤ n) × ((k : ℕ) → k < i → getD a k 0 ≡ get
 abbrev μ-loop : tie.MeasureT-loop
 μ-loop a b n i₀ i = n - i
 
--- the bytes at a place are the same
+-- the bytes of both, and that they are the same at a place
+abbrev left : tie.Start Inv-loop μ-loop → List ℕ
+left c = now (c .args .a)
+
+abbrev right : tie.Start Inv-loop μ-loop → List ℕ
+right c = now (c .args .b)
+
 abbrev SameAt : tie.Start Inv-loop μ-loop → ℕ → Type 0
-SameAt c k = getD (now (c .args .a)) k 0 ≡ getD (now (c .args .b)) k 0
+SameAt c k = getD (left c) k 0 ≡ getD (right c) k 0
 
 returns : tie.Need-returns Inv-loop μ-loop
-returns c = not-so
+returns c = let d = c .before in sym (other-of (left d) (right d) (λ e. c .if1 .taken (sym (ap length e))))
 
 loop-holds : tie.Need-loop-holds Inv-loop μ-loop
 loop-holds c = search needs
@@ -35,7 +42,10 @@ shared-slice-read-if2-2 : tie.Need-shared-slice-read-if2-2 Inv-loop μ-loop
 shared-slice-read-if2-2 c = search needs
 
 returns-2 : tie.Need-returns-2 Inv-loop μ-loop
-returns-2 c = not-so
+returns-2 c =
+    let l = c .before .before .before .before in
+    let d = l .before .before in
+    sym (other-of (left d) (right d) (λ e. c .if2 .taken (ap (λ (s : List ℕ). getD s (l .loop .i) 0) e)))
 
 add-i : tie.Need-add-i Inv-loop μ-loop
 add-i c = search needs
@@ -47,7 +57,7 @@ loop-again : tie.Need-loop-again Inv-loop μ-loop
 loop-again c = (search needs, below-more (SameAt (c .before .before .before .before .before .before)) _ (c .before .before .before .before .loop .inv .1) (c .if2 .left))
 
 returns-3 : tie.Need-returns-3 Inv-loop μ-loop
-returns-3 c _ = same-names _ _ (ext-getD 0 _ _ (omega arith) (λ k l. c .before .loop .inv .1 k (omega arith)))
+returns-3 c = let d = c .before .before .before in sym (same-of (left d) (right d) (ext-getD 0 (left d) (right d) (omega arith) (λ k l. c .before .loop .inv .1 k (omega arith))))
 
 pub equal-spec : {M : Type 1} → statement M
 equal-spec =

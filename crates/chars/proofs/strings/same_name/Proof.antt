@@ -10,6 +10,8 @@ use Rattle.chars.specs.Characters.{charAt}
 use Rattle.chars.specs.Strings.{characters, charsAt}
 use Rattle.model.specs.Text.{same}
 use Rattle.chars.proofs.strings.Laws.{char-next, chars-char, chars-none, differ, alike, longer, shorter, ended}
+use Rattle.chars.proofs.strings.Meaning.{same-names}
+use Rattle.chars.proofs.plain.Laws.{apart-names}
 use Rattle.chars.proofs.strings.same_name.Statement.{statement}
 use Rattle.chars.proofs.strings.same_name.Tie as tie
 
@@ -19,11 +21,17 @@ Inv-loop a b a' b' i₀ j₀ i j = same (characters a) (characters b) ≡ same (
 abbrev μ-loop : tie.MeasureT-loop
 μ-loop a b a' b' i₀ j₀ i j = length a' - i
 
+apart-requires : tie.Need-apart-requires Inv-loop μ-loop
+apart-requires c κs = search needs
+
+returns : tie.Need-returns Inv-loop μ-loop
+returns c = sym (apart-names _ _ (sym (c .before .apart .ensures) ∙ c .if1 .taken))
+
 equal-requires : tie.Need-equal-requires Inv-loop μ-loop
 equal-requires c κs = search needs
 
-returns : tie.Need-returns Inv-loop μ-loop
-returns c = sym (c .before .equal .ensures (c .if1 .taken))
+returns-2 : tie.Need-returns-2 Inv-loop μ-loop
+returns-2 c = sym (same-names _ _ (sym (c .before .equal .ensures) ∙ c .if2 .taken))
 
 loop-holds : tie.Need-loop-holds Inv-loop μ-loop
 loop-holds c = refl
@@ -45,7 +53,7 @@ abbrev turn : tie.After-known-told2 Inv-loop μ-loop → tie.At-loop Inv-loop μ
 turn c = c .before .before .before .before .before .before .before .before
 
 abbrev start : tie.At-loop Inv-loop μ-loop → tie.Start Inv-loop μ-loop
-start l = l .before .before .before .before .before
+start l = l .before .before .before .before .before .before .before
 
 -- both have a character
 module _ (c : tie.After-known-told2 Inv-loop μ-loop) where
@@ -55,17 +63,17 @@ module _ (c : tie.After-known-told2 Inv-loop μ-loop) where
   pub right : let l = turn c in let y = c .before .y .given .0 in charAt (now (start l .args .b)) (l .loop .j) ≡ Char (y .0) (y .1 .0)
   right = sym (c .before .before .before .char-at2 .ensures) ∙ c .before .y .given .1
 
-returns-2 : tie.Need-returns-2 Inv-loop μ-loop
-returns-2 c = sym (c .before .before .before .before .before .before .before .before .before .loop .inv ∙ differ (chars-char _ _ _ _ (left (c .before))) (chars-char _ _ _ _ (right (c .before))) (c .if2 .taken))
+returns-3 : tie.Need-returns-3 Inv-loop μ-loop
+returns-3 c = sym (turn (c .before) .loop .inv ∙ differ (chars-char _ _ _ _ (left (c .before))) (chars-char _ _ _ _ (right (c .before))) (c .if3 .taken))
 
 loop-less : tie.Need-loop-less Inv-loop μ-loop
 loop-less c = omega (arith, char-next _ _ _ _ (left (c .before)))
 
 loop-again : tie.Need-loop-again Inv-loop μ-loop
-loop-again c = c .before .before .before .before .before .before .before .before .before .loop .inv ∙ alike (chars-char _ _ _ _ (left (c .before))) (chars-char _ _ _ _ (right (c .before))) (c .if2 .left)
+loop-again c = turn (c .before) .loop .inv ∙ alike (chars-char _ _ _ _ (left (c .before))) (chars-char _ _ _ _ (right (c .before))) (c .if3 .left)
 
-returns-3 : tie.Need-returns-3 Inv-loop μ-loop
-returns-3 c = sym (c .before .before .before .before .before .before .loop .inv ∙ longer (chars-char _ _ _ _ (sym (c .before .before .before .before .before .char-at .ensures) ∙ c .before .before .before .x .given .1)) (chars-none _ _ _ (c .before .char-at2 .ensures) (c .match2 .keys2)))
+returns-4 : tie.Need-returns-4 Inv-loop μ-loop
+returns-4 c = sym (c .before .before .before .before .before .before .loop .inv ∙ longer (chars-char _ _ _ _ (sym (c .before .before .before .before .before .char-at .ensures) ∙ c .before .before .before .x .given .1)) (chars-none _ _ _ (c .before .char-at2 .ensures) (c .match2 .keys2)))
 
 char-at-requires-3 : tie.Need-char-at-requires-3 Inv-loop μ-loop
 char-at-requires-3 c κs = search needs
@@ -73,11 +81,11 @@ char-at-requires-3 c κs = search needs
 enum-told : tie.Need-enum-told Inv-loop μ-loop
 enum-told c = search needs
 
-returns-4 : tie.Need-returns-4 Inv-loop μ-loop
-returns-4 c = sym (c .before .before .before .before .before .loop .inv ∙ shorter (chars-none _ _ _ (c .before .before .before .before .char-at .ensures) (c .before .before .before .match .keys2)) (chars-char _ _ _ _ (sym (c .before .before .char-at3 .ensures) ∙ c .enum-told .given .1)))
-
 returns-5 : tie.Need-returns-5 Inv-loop μ-loop
-returns-5 c = sym (c .before .before .before .before .loop .inv ∙ ended (chars-none _ _ _ (c .before .before .before .char-at .ensures) (c .before .before .match .keys2)) (chars-none _ _ _ (c .before .char-at3 .ensures) (c .match3 .keys2)))
+returns-5 c = sym (c .before .before .before .before .before .loop .inv ∙ shorter (chars-none _ _ _ (c .before .before .before .before .char-at .ensures) (c .before .before .before .match .keys2)) (chars-char _ _ _ _ (sym (c .before .before .char-at3 .ensures) ∙ c .enum-told .given .1)))
+
+returns-6 : tie.Need-returns-6 Inv-loop μ-loop
+returns-6 c = sym (c .before .before .before .before .loop .inv ∙ ended (chars-none _ _ _ (c .before .before .before .char-at .ensures) (c .before .before .match .keys2)) (chars-none _ _ _ (c .before .char-at3 .ensures) (c .match3 .keys2)))
 
 pub same-name-spec : {M : Type 1} → statement M
 same-name-spec =
@@ -85,18 +93,20 @@ same-name-spec =
     (tie.spec
     Inv-loop
     μ-loop
-    equal-requires
+    apart-requires
     returns
+    equal-requires
+    returns-2
     loop-holds
     char-at-requires
     enum-known-x
     char-at-requires-2
     enum-known-y
-    returns-2
+    returns-3
     loop-less
     loop-again
-    returns-3
+    returns-4
     char-at-requires-3
     enum-told
-    returns-4
-    returns-5)
+    returns-5
+    returns-6)
