@@ -9,6 +9,7 @@ mod reading;
 mod scanning;
 
 pub use answers::Answer;
+pub use filling::ROW_WORDS;
 pub use limits::Limits;
 pub use reading::read;
 pub use reading::read_within;

@@ -1,28 +1,19 @@
 -- The first name that two objects share, on plain values.
-use Prim.Native.Nat.{ℕ, suc, _+_, _-_, _≤_, _<_}
+use Prim.Native.Nat.{ℕ, _+_, _-_, _≤_, _<_}
 use mathlib.Core.Path.{_≡_, refl, sym, ap, ap₂, _∙_}
 use mathlib.Core.Bool.{Bool, true, false, cond, _||_}
 use mathlib.Core.Option.{Option, none, some}
-use mathlib.Core.Logic.{⊎-elim}
 use mathlib.Core.List.{List}
-use native.Mathlib.Nat.{eq-or-lt-of-le}
-use native.Mathlib.Omega.{arith}
-use lib.ListN.{getD, replicate}
 use Rattle.model.specs.Text.{same}
-use Rattle.model.proofs.Basics.{both}
-use Rattle.reader.specs.Tree.{Node, Members, no-member, member}
-use Rattle.reader.specs.Rows.{countMembers}
+use Rattle.reader.specs.Tree.{Members, no-member, member}
 use Rattle.reader.specs.Grammar.{nameOf}
 use Rattle.reader.specs.Holding.{word}
 use Rattle.schema.specs.Located.{hasNamed, sharedAt}
-use Rattle.schema.specs.Mismatch.{lookup}
-use Rattle.schema.specs.Walking.{Reads, ObjectRow, PartRow, sharedFault, Shares, NoneShared}
-use Rattle.schema.specs.Matching.{nameAt, Matches}
+use Rattle.schema.specs.Walking.{Reads, ObjectRow, PartRow, sharedFault, Shares}
 use Rattle.schema.specs.declared.rows.Record.{Record}
 use Rattle.schema.specs.declared.definitions.Fault.{Fault}
-use Rattle.schema.proofs.Trees.{same-members, part-object, same-part, not-found}
+use Rattle.schema.proofs.Trees.{same-members, part-object, same-part}
 use Rattle.schema.proofs.Trees.{MembersLeft, MemberHere, members-start, member-here, members-next, members-end, member-read}
-use Rattle.schema.proofs.Filling.{matched-fresh}
 
 -- ---- whether an object has a name: it was not among the members before row `here`
 
@@ -84,9 +75,6 @@ module _ {s t : List ℕ} {q p : ℕ} where
     pub no-optional : p ≡ 0 → (f .code ≡ 0) × (f .place ≡ 0) → Shares s t q p f
     no-optional z e = shares none e (λ r o. ap (sharedAt s (r .members)) (o .absent z))
 
-    pub none-shared : NoneShared s t q p → (f .code ≡ 0) × (f .place ≡ 0) → Shares s t q p f
-    none-shared n e = shares none e (n .tells)
-
   pub compare : (o : PartRow s t p) → 0 < p → {left : ℕ} → left ≡ word t p 3 → Comparing s t q p (p + 1) left
   compare o l e = record { rest = o .members; ahead = members-start (part-object o l) e; stays = λ r i. ap (sharedAt s (r .members)) (same-part i o) }
 
@@ -108,45 +96,3 @@ module _ {s t : List ℕ} {q p : ℕ} where
 
         pub compare-on : Has s t q (nameOf s (x .first) (x .end)) false → {r′ : ℕ} → r′ ≡ here + 1 + word t (here + 1) 4 → Comparing s t q p r′ (left - 1)
         compare-on h e = record { rest = candidate .others; ahead = members-next (a .ahead) candidate e; stays = λ r o. a .stays r o ∙ splits h r }
-
--- ---- no name of the second object was found in the first
-
-not-named : (s key : List ℕ) (ms : Members) → lookup s key ms ≡ none → hasNamed s key ms ≡ false
-not-named s key no-member e = refl
-not-named s key (member f e n ms) q =
-    both (λ (x : Option Node). x ≡ none → (same key (nameOf s f e) || hasNamed s key ms) ≡ false) (same key (nameOf s f e))
-    (λ _ z. (let y : _≡_ {A = ℕ} 0 1 = cc in absurd (omega arith)))
-    (λ t z. rw t (not-named s key ms z)) q
-
-unshared : (s : List ℕ) (r ms : Members) → ((j : ℕ) → j < countMembers ms → hasNamed s (nameAt s ms j) r ≡ false) → sharedAt s r ms ≡ none
-unshared s r no-member f = refl
-unshared s r (member a e n ms) f = rw (f 0 (omega arith)) (unshared s r ms (λ j l. f (suc j) (omega arith)))
-
--- nothing was found for the first i of `count` names
-pub record Unmatched (s t : List ℕ) (q p : ℕ) (vs : List ℕ) (count i : ℕ) : Type 0 where
-  pub few : count ≤ 2048
-  pub counts : (o : ObjectRow s t p) → count ≡ countMembers (o .members)
-  pub matched : Matches s t q s t p (replicate 2048 0) vs
-  pub passed : (j : ℕ) → j < i → getD vs j 0 ≡ 0
-
-module _ {s t : List ℕ} {q p : ℕ} {vs : List ℕ} {count : ℕ} where
-  pub unmatched-start : count ≡ word t p 3 → count ≤ 2048 → Matches s t q s t p (replicate 2048 0) vs → Unmatched s t q p vs count 0
-  unmatched-start e few m = record { few = few; counts = λ o. members-start o e .counts; matched = m; passed = λ j l. absurd (omega arith) }
-
-  module _ {i : ℕ} (a : Unmatched s t q p vs count i) where
-    pub unmatched-next : getD vs i 0 ≤ 0 → Unmatched s t q p vs count (i + 1)
-    unmatched-next z = record {
-      few = a .few;
-      counts = a .counts;
-      matched = a .matched;
-      passed = λ j l. ⊎-elim (λ e. (let y : getD vs i 0 ≡ 0 = omega arith in rw e y)) (λ m. a .passed j m) (eq-or-lt-of-le (omega arith));
-    }
-
-    pub unmatched-end : count ≤ i → 0 < q → 0 < p → NoneShared s t q p
-    unmatched-end l u v = record {
-      tells = λ r o.
-          unshared s (r .members) (o .members) (λ j m.
-          (let b = part-object o v in
-          let c = a .counts b in
-          not-named s _ (r .members) (not-found (part-object r u) (matched-fresh (a .matched) b (omega (arith, a .few)) j m) (a .passed j (omega arith)))));
-    }

@@ -40,10 +40,6 @@ plain = record {
   optional = refl;
 }
 
--- a name that is told to have the characters of a word
-pub is-spelled : (n w : List ℕ) → characters w ≡ w → same (characters n) (characters w) ≡ true → characters n ≡ w
-is-spelled n w p t = same-true (characters n) w (rw p at t)
-
 -- b says whether the name k is the word w
 pub record Test (k w : List ℕ) (b : Bool) : Type 0 where
   pub says : b ≡ same k w

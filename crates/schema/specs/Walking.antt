@@ -82,9 +82,6 @@ pub record DefinesFields (s t : List ℕ) (r : ℕ) (f : Fault) : Type 0 where
 pub record Shares (s t : List ℕ) (required optional : ℕ) (f : Fault) : Type 0 where
   pub tells : (r : PartRow s t required) (o : PartRow s t optional) → f ≡ sharedFault (sharedAt s (r .members) (o .members))
 
-pub record NoneShared (s t : List ℕ) (required optional : ℕ) : Type 0 where
-  pub tells : (r : PartRow s t required) (o : PartRow s t optional) → sharedAt s (r .members) (o .members) ≡ none
-
 -- ---- mismatches
 
 -- a value at row r₁ of the document's table, and a definition at row r₂ of the schema's

@@ -1,6 +1,4 @@
 // What is a definition, and the first fault of a value that is none (01, "Definitions").
-use crate::matching::match_names;
-use crate::matching::wide;
 use crate::names::Generic;
 use crate::names::TypeName;
 use crate::names::generic_name;
@@ -9,8 +7,7 @@ use crate::rows::find;
 use crate::rows::row_at;
 use chars::same_name;
 ghost use mathlib.Core.Path.{_≡_};
-ghost use mathlib.Core.Bool.{true};
-ghost use Rattle.schema.specs.Walking.{Rowed, ObjectRow, PartRow, Defines, DefinesBody, DefinesFields, Shares, NoneShared};
+ghost use Rattle.schema.specs.Walking.{Rowed, PartRow, Defines, DefinesBody, DefinesFields, Shares};
 
 // Codes 10 to 12 with their place; code 0 of a definition.
 pub struct Fault {
@@ -72,47 +69,6 @@ fn first_shared(text: &[u8], table: &[u32], required: usize, optional: usize) ->
     Fault::none()
 }
 
-// Whether an index finds that no member at row `optional` has the name of one at row `required`; false where they are too few, or too many, for one.
-fn none_shared(text: &[u8], table: &[u32], required: usize, optional: usize) -> bool
-    requires { ⌜ PartRow (now text) (now table) required ⌝ }
-    requires { ⌜ PartRow (now text) (now table) optional ⌝ }
-    ensures { λ r. ⌜ (r ≡ true → NoneShared (now (text .entry)) (now (table .entry)) required optional) ⌝ }
-{
-    if required == 0 {
-        return false;
-    }
-    if optional == 0 {
-        return false;
-    }
-    let count = row_at(table, optional).children;
-    if !wide(row_at(table, required).children, count) {
-        return false;
-    }
-    let mut found = [0usize; 2048];
-    match_names(text, table, required, text, table, optional, &mut found);
-    let names = count as usize;
-    let mut i: usize = 0;
-    while i < names {
-        if found[i] > 0 {
-            return false;
-        }
-        i += 1;
-    }
-    true
-}
-
-// The first shared name, with a test in front that spares most wide objects the comparing of all names.
-fn shared_name(text: &[u8], table: &[u32], required: usize, optional: usize) -> Fault
-    requires { ⌜ PartRow (now text) (now table) required ⌝ }
-    requires { ⌜ PartRow (now text) (now table) optional ⌝ }
-    ensures { λ r. ⌜ Shares (now (text .entry)) (now (table .entry)) required optional r ⌝ }
-{
-    if none_shared(text, table, required, optional) {
-        return Fault::none();
-    }
-    first_shared(text, table, required, optional)
-}
-
 // The first fault of the value at a row as a definition.
 pub fn define(text: &[u8], table: &[u32], row: usize) -> Fault
     requires { ⌜ Rowed (now text) (now table) row ⌝ }
@@ -168,7 +124,7 @@ fn define_body(text: &[u8], table: &[u32], row: usize) -> Fault
             return Fault::at(10, part.first);
         }
     }
-    let shared = shared_name(text, table, required, optional);
+    let shared = first_shared(text, table, required, optional);
     if shared.code != 0 {
         return shared;
     }

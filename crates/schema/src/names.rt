@@ -1,12 +1,9 @@
 // The names that definitions are made of (01, "Definitions").
-use chars::equal;
 use chars::same_name;
 ghost use mathlib.Core.Path.{_≡_};
 ghost use Rattle.model.specs.Definition.{namedBy};
 ghost use Rattle.chars.specs.Strings.{characters};
 ghost use Rattle.schema.specs.Names.{typeName, genericOf, takesKind};
-ghost use Rattle.schema.specs.declared.names.TypeName.the-variants.{Unknown};
-ghost use Rattle.schema.specs.declared.names.Generic.the-variants.{Other};
 
 // The type that a string names.
 pub enum TypeName {
@@ -28,46 +25,8 @@ pub enum Generic {
     Other,
 }
 
-// The type whose name has the bytes of the string, where its length is that of the name; else Unknown. Schema is left to `spelled_type`.
-fn common_type(name: &[u8]) -> TypeName
-    ensures { λ r. ⌜ ((r ≡ Unknown → ⊥) → r ≡ typeName (namedBy (characters (now (name .entry))))) ⌝ }
-{
-    match name.len() {
-        4 => {
-            if equal(name, b"JSON") {
-                return TypeName::Json;
-            }
-        }
-        5 => {
-            if equal(name, b"Float") {
-                return TypeName::Float;
-            }
-        }
-        6 => {
-            if equal(name, b"String") {
-                return TypeName::Text;
-            }
-        }
-        7 => {
-            if equal(name, b"Integer") {
-                return TypeName::Integer;
-            }
-            if equal(name, b"Boolean") {
-                return TypeName::Boolean;
-            }
-        }
-        8 => {
-            if equal(name, b"DateTime") {
-                return TypeName::DateTime;
-            }
-        }
-        _ => {}
-    }
-    TypeName::Unknown
-}
-
-// The type that a string names, however it is spelled.
-fn spelled_type(name: &[u8]) -> TypeName
+// The type that a string names, as the bytes between its quotes.
+pub fn named_type(name: &[u8]) -> TypeName
     ensures { λ r. ⌜ r ≡ typeName (namedBy (characters (now (name .entry)))) ⌝ }
 {
     if same_name(name, b"JSON") {
@@ -94,44 +53,8 @@ fn spelled_type(name: &[u8]) -> TypeName
     TypeName::Unknown
 }
 
-// The type that a string names, as the bytes between its quotes.
-pub fn named_type(name: &[u8]) -> TypeName
-    ensures { λ r. ⌜ r ≡ typeName (namedBy (characters (now (name .entry)))) ⌝ }
-{
-    let common = common_type(name);
-    match common {
-        TypeName::Unknown => spelled_type(name),
-        _ => common,
-    }
-}
-
-// The generic type whose name has the bytes given, where their number is that of the name; else Other.
-fn common_generic(name: &[u8]) -> Generic
-    ensures { λ r. ⌜ ((r ≡ Other → ⊥) → r ≡ genericOf (characters (now (name .entry)))) ⌝ }
-{
-    match name.len() {
-        3 => {
-            if equal(name, b"Map") {
-                return Generic::Map;
-            }
-        }
-        5 => {
-            if equal(name, b"Array") {
-                return Generic::Array;
-            }
-        }
-        6 => {
-            if equal(name, b"Object") {
-                return Generic::Object;
-            }
-        }
-        _ => {}
-    }
-    Generic::Other
-}
-
-// The generic type that a name is, however it is spelled.
-fn spelled_generic(name: &[u8]) -> Generic
+// The generic type that a name is.
+pub fn generic_name(name: &[u8]) -> Generic
     ensures { λ r. ⌜ r ≡ genericOf (characters (now (name .entry))) ⌝ }
 {
     if same_name(name, b"Array") {
@@ -144,17 +67,6 @@ fn spelled_generic(name: &[u8]) -> Generic
         return Generic::Object;
     }
     Generic::Other
-}
-
-// The generic type that a name is.
-pub fn generic_name(name: &[u8]) -> Generic
-    ensures { λ r. ⌜ r ≡ genericOf (characters (now (name .entry))) ⌝ }
-{
-    let common = common_generic(name);
-    match common {
-        Generic::Other => spelled_generic(name),
-        _ => common,
-    }
 }
 
 // Whether a type takes every value of a kind.

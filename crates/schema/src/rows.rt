@@ -1,7 +1,6 @@
 // Rows of a table (01, "Rows"), and the members of an object by name.
-use chars::apart;
-use chars::equal;
 use chars::same_name;
+use reader::ROW_WORDS;
 ghost use mathlib.Core.Path.{_≡_};
 ghost use Prim.Native.Nat.{_+_, _*_, _≤_, _<_};
 ghost use lib.ListN.{length};
@@ -24,7 +23,7 @@ fn word(table: &[u32], row: usize, i: usize) -> u32
     requires { ⌜ (i < rowWords) × (rowWords * (row + 1) ≤ length (now table)) ⌝ }
     ensures { λ r. ⌜ r ≡ wordOf (now (table .entry)) row i ⌝ }
 {
-    table[5 * row + i]
+    table[ROW_WORDS * row + i]
 }
 
 // A row, read whole.
@@ -53,13 +52,8 @@ pub fn find(text: &[u8], table: &[u32], object: usize, key: &[u8]) -> usize
         let name = row_at(table, row);
         let from = name.first as usize + 1;
         let to = name.end as usize - 1;
-        if !apart(key, &text[from..to]) {
-            if equal(key, &text[from..to]) {
-                return row + 1;
-            }
-            if same_name(key, &text[from..to]) {
-                return row + 1;
-            }
+        if same_name(key, &text[from..to]) {
+            return row + 1;
         }
         row = row_at(table, row + 1).next;
         left -= 1;

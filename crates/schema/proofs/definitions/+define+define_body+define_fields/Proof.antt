@@ -29,7 +29,7 @@ use Rattle.schema.proofs.definitions.define_fields.Kinds as define-fiel
 use Rattle.schema.proofs.definitions.+define+define_body+define_fields.Lts-define_fields as define-fields-lts
 use Rattle.schema.proofs.definitions.Fault.at.Reads as at-reads
 use Rattle.schema.proofs.definitions.Fault.none.Reads as none-reads
-use Rattle.schema.proofs.definitions.shared_name.Reads as shared-name-reads
+use Rattle.schema.proofs.definitions.first_shared.Reads as first-shared-reads
 use Rattle.schema.proofs.names.generic_name.Reads as generic-name-reads
 use Rattle.schema.proofs.names.named_type.Reads as named-type-reads
 use Rattle.schema.proofs.rows.find.Reads as find-reads
@@ -263,7 +263,7 @@ module _ (t : ℕ) where
 -- ---- define_body
 
 abbrev define-body-claims : ℕ → define-body-lts.Claims
-define-body-claims t = (row-at-reads.Asked, row-at-reads.Learnt, at-reads.Asked, at-reads.Learnt, find-reads.Asked, find-reads.Learnt, shared-name-reads.Asked, shared-name-reads.Learnt, define-fields-below t, define-fields.Post)
+define-body-claims t = (row-at-reads.Asked, row-at-reads.Learnt, at-reads.Asked, at-reads.Learnt, find-reads.Asked, find-reads.Learnt, first-shared-reads.Asked, first-shared-reads.Learnt, define-fields-below t, define-fields.Post)
 
 module _ (t : ℕ) where
   -- an object
@@ -356,11 +356,11 @@ module _ (t : ℕ) where
       let p = c .before .before .before .before in
       optional-other (body-found (p .before .before)) (c .at3 .ensures) (body-first (p .before)) (p .if4 .taken) (c .before .before .before .row-at3 .ensures) (c .before .if5 .taken)
 
-  define-body-shared-name-requires : define-body-lts.Need-shared-name-requires (define-body-claims t) (define-body-at t) define-body.Post
-  define-body-shared-name-requires c κs = let p = body-parts c in (p .first .at, p .second .at)
+  define-body-first-shared-requires : define-body-lts.Need-first-shared-requires (define-body-claims t) (define-body-at t) define-body.Post
+  define-body-first-shared-requires c κs = let p = body-parts c in (p .first .at, p .second .at)
 
   define-body-returns-4 : define-body-lts.Need-returns-4 (define-body-claims t) (define-body-at t) define-body.Post
-  define-body-returns-4 c = shared-fault (body-parts (c .before .before .before)) (c .before .before .shared-name .ensures) (c .if6 .taken)
+  define-body-returns-4 c = shared-fault (body-parts (c .before .before .before)) (c .before .before .first-shared .ensures) (c .if6 .taken)
 
   define-body-define-fields-requires : define-body-lts.Need-define-fields-requires (define-body-claims t) (define-body-at t) define-body.Post
   define-body-define-fields-requires c κs = let p = c .before .before .before in (body-less p .0, body-parts p .first .at)
@@ -368,7 +368,7 @@ module _ (t : ℕ) where
   define-body-returns-5 : define-body-lts.Need-returns-5 (define-body-claims t) (define-body-at t) define-body.Post
   define-body-returns-5 c =
       let p = c .before .before .before in
-      required-fault (body-parts (p .before .before .before)) (p .before .before .shared-name .ensures) (p .if6 .left) (c .before .before .define-fields .ensures) (c .if7 .taken)
+      required-fault (body-parts (p .before .before .before)) (p .before .before .first-shared .ensures) (p .if6 .left) (c .before .before .define-fields .ensures) (c .if7 .taken)
 
   define-body-define-fields-requires-2 : define-body-lts.Need-define-fields-requires-2 (define-body-claims t) (define-body-at t) define-body.Post
   define-body-define-fields-requires-2 c κs = let p = c .before .before .before .before .before .before in (body-less p .1, body-parts p .second .at)
@@ -376,7 +376,7 @@ module _ (t : ℕ) where
   define-body-returns-6 : define-body-lts.Need-returns-6 (define-body-claims t) (define-body-at t) define-body.Post
   define-body-returns-6 c =
       let p = c .before .before .before .before in
-      optional-fault (body-parts (p .before .before .before)) (p .before .before .shared-name .ensures) (p .if6 .left) (c .before .before .before .define-fields .ensures) (c .before .if7 .left) (c .define-fields2 .ensures)
+      optional-fault (body-parts (p .before .before .before)) (p .before .before .first-shared .ensures) (p .if6 .left) (c .before .before .before .define-fields .ensures) (c .before .if7 .left) (c .define-fields2 .ensures)
 
 -- ---- define_fields
 
@@ -519,7 +519,7 @@ pub +define+define-body+define-fields-spec : {M : Type 1} → statement M
     (define-body-row-at-requires-3 t)
     (define-body-at-requires-3 t)
     (define-body-returns-3 t)
-    (define-body-shared-name-requires t)
+    (define-body-first-shared-requires t)
     (define-body-returns-4 t)
     (define-body-define-fields-requires t)
     (define-body-returns-5 t)

@@ -2,11 +2,9 @@
 use Prim.Native.Nat.{_+_, _≤_}
 use mathlib.Core.Path.{sym, _∙_}
 use lib.ListN.{length}
-use mathlib.Core.Logic.{⊎-elim}
 use denote.Ref.{now}
 use native.Mathlib.Omega.{arith}
 use borrow.Author.Needs.{needs}
-use borrow.Author.Tests.{not-false}
 use Rattle.chars.specs.Strings.{characters}
 use Rattle.schema.proofs.Trees.{as-row, in-table, MemberHere, quotes-read}
 use Rattle.schema.proofs.Finding.{Seeking, seek, seek-end, candidate, hit, missed}
@@ -30,9 +28,9 @@ quotes : (c : tie.After-row-at2 Inv-loop μ-loop) →
     (x .first + 2 ≤ x .end) × (x .end ≤ length (now (c .before .before .before .before .before .before .before .args .text)))
 quotes c = quotes-read (c .row-at2 .ensures) (name-here (c .before) .quoted)
 
--- the row of a name that may be the one looked for
-abbrev row-read : tie.Then1 Inv-loop μ-loop → tie.After-row-at2 Inv-loop μ-loop
-row-read c = c .before .before .before .before .before
+-- the row whose name was compared
+abbrev row-read : tie.After-same-name Inv-loop μ-loop → tie.After-row-at2 Inv-loop μ-loop
+row-read c = c .before .before .before .before
 
 row-at-requires : tie.Need-row-at-requires Inv-loop μ-loop
 row-at-requires c κs = in-table (as-row (c .before .before .before .pre))
@@ -58,65 +56,31 @@ cast-to c = search needs
 sub-to : tie.Need-sub-to Inv-loop μ-loop
 sub-to c = omega (arith, quotes (c .before .before))
 
-sub-apart : tie.Need-sub-apart Inv-loop μ-loop
-sub-apart c = omega (arith, quotes (c .before .before))
-
-part-apart-start : tie.Need-part-apart-start Inv-loop μ-loop
-part-apart-start c = omega (arith, quotes (c .before .before))
-
-part-apart-end : tie.Need-part-apart-end Inv-loop μ-loop
-part-apart-end c = omega (arith, quotes (c .before .before))
-
-apart-requires : tie.Need-apart-requires Inv-loop μ-loop
-apart-requires c κs = search needs
-
-sub-equal : tie.Need-sub-equal Inv-loop μ-loop
-sub-equal c = omega (arith, quotes (row-read c))
-
-part-equal-start : tie.Need-part-equal-start Inv-loop μ-loop
-part-equal-start c = omega (arith, quotes (row-read c))
-
-part-equal-end : tie.Need-part-equal-end Inv-loop μ-loop
-part-equal-end c = omega (arith, quotes (row-read c))
-
-equal-requires : tie.Need-equal-requires Inv-loop μ-loop
-equal-requires c κs = search needs
-
-add-result : tie.Need-add-result Inv-loop μ-loop
-add-result c = omega (arith, name-here (row-read (c .before .before .before) .before) .in-table .here)
-
-returns : tie.Need-returns Inv-loop μ-loop
-returns c =
-    let d = row-read (c .before .before .before) in
-    hit (d .before .before .loop .inv) (d .before .loop-test .taken) (d .row-at2 .ensures) (c .before .equal .ensures (c .if2 .taken))
-
 sub-same-name : tie.Need-sub-same-name Inv-loop μ-loop
-sub-same-name c = omega (arith, quotes (row-read (c .before .before .before)))
+sub-same-name c = omega (arith, quotes (c .before .before))
 
 part-same-name-start : tie.Need-part-same-name-start Inv-loop μ-loop
-part-same-name-start c = omega (arith, quotes (row-read (c .before .before .before)))
+part-same-name-start c = omega (arith, quotes (c .before .before))
 
 part-same-name-end : tie.Need-part-same-name-end Inv-loop μ-loop
-part-same-name-end c = omega (arith, quotes (row-read (c .before .before .before)))
+part-same-name-end c = omega (arith, quotes (c .before .before))
 
 same-name-requires : tie.Need-same-name-requires Inv-loop μ-loop
 same-name-requires c κs = search needs
 
-add-result-2 : tie.Need-add-result-2 Inv-loop μ-loop
-add-result-2 c =
-    let d = row-read (c .before .before .before .before .before .before) in
-    omega (arith, name-here (d .before) .in-table .here, d .before .before .before .before .before .before .before .good)
+add-result : tie.Need-add-result Inv-loop μ-loop
+add-result c = omega (arith, name-here (row-read (c .before) .before) .in-table .here)
 
-returns-2 : tie.Need-returns-2 Inv-loop μ-loop
-returns-2 c =
-    let d = row-read (c .before .before .before .before .before .before) in
-    hit (d .before .before .loop .inv) (d .before .loop-test .taken) (d .row-at2 .ensures) (sym (c .before .same-name .ensures) ∙ c .if3 .taken)
+returns : tie.Need-returns Inv-loop μ-loop
+returns c =
+    let d = row-read (c .before) in
+    hit (d .before .before .loop .inv) (d .before .loop-test .taken) (d .row-at2 .ensures) (sym (c .before .same-name .ensures) ∙ c .if1 .taken)
 
 add-row-at : tie.Need-add-row-at Inv-loop μ-loop
-add-row-at c = omega (arith, name-here (c .before .before .before .before .before .before) .in-table .here)
+add-row-at c = omega (arith, name-here (row-read (c .before) .before) .in-table .here)
 
 row-at-requires-3 : tie.Need-row-at-requires-3 Inv-loop μ-loop
-row-at-requires-3 c κs = in-table (name-here (c .before .before .before .before .before .before) .value)
+row-at-requires-3 c κs = in-table (name-here (row-read (c .before) .before) .value)
 
 sub-left : tie.Need-sub-left Inv-loop μ-loop
 sub-left c = omega arith
@@ -126,13 +90,12 @@ loop-less c = omega arith
 
 loop-again : tie.Need-loop-again Inv-loop μ-loop
 loop-again c =
-    let d = c .before .before .before .before .before .before in
-    missed (d .before .before .loop .inv) (d .before .loop-test .taken) (d .row-at2 .ensures)
-    (⊎-elim (λ w. sym (w .5 .ensures) ∙ w .6 .left) (λ w. c .before .before .apart .ensures (not-false _ (w .left))) (c .before .if1 .came))
-    (c .row-at3 .ensures .next)
+    let n = c .before .before in
+    let d = row-read n in
+    missed (d .before .before .loop .inv) (d .before .loop-test .taken) (d .row-at2 .ensures) (sym (n .same-name .ensures) ∙ c .before .if1 .left) (c .row-at3 .ensures .next)
 
-returns-3 : tie.Need-returns-3 Inv-loop μ-loop
-returns-3 c = seek-end (c .before .loop .inv) (c .loop-test .left)
+returns-2 : tie.Need-returns-2 Inv-loop μ-loop
+returns-2 c = seek-end (c .before .loop .inv) (c .loop-test .left)
 
 pub find-spec : {M : Type 1} → statement M
 find-spec =
@@ -148,25 +111,15 @@ find-spec =
     add-from
     cast-to
     sub-to
-    sub-apart
-    part-apart-start
-    part-apart-end
-    apart-requires
-    sub-equal
-    part-equal-start
-    part-equal-end
-    equal-requires
-    add-result
-    returns
     sub-same-name
     part-same-name-start
     part-same-name-end
     same-name-requires
-    add-result-2
-    returns-2
+    add-result
+    returns
     add-row-at
     row-at-requires-3
     sub-left
     loop-less
     loop-again
-    returns-3)
+    returns-2)
