@@ -6,17 +6,12 @@ use mathlib.Core.Logic.{_⊎_}
 use mathlib.Core.List.{List}
 use lib.Dec.{leb, ltb, eqb}
 use Rattle.chars.specs.declared.characters.Step.the-variants.{Char}
-use Rattle.chars.specs.Bytes.{byteAt}
 use Rattle.chars.specs.Space.{run}
 use Rattle.chars.specs.Characters.{charAt}
 
 -- a character of one byte, neither the quote nor the backslash
 unfoldable pub isPlain : ℕ → Bool
 isPlain b = leb 0x20 b && ltb b 0x80 && not (eqb b 0x22) && not (eqb b 0x5C)
-
--- two names begin with different bytes of this kind
-unfoldable pub isApart : List ℕ → List ℕ → Bool
-isApart a b = isPlain (byteAt a 0) && not (eqb (byteAt a 0) (byteAt b 0)) && isPlain (byteAt b 0)
 
 -- the first place from i on that holds no such byte
 abbrev pub plainEnd : List ℕ → ℕ → ℕ

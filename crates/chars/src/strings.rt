@@ -9,7 +9,6 @@ use crate::wide::wides;
 ghost use mathlib.Core.Path.{_≡_};
 ghost use Rattle.model.specs.Text.{same};
 ghost use Rattle.chars.specs.Strings.{stringAt, characters};
-ghost use Rattle.chars.specs.Plain.{isApart};
 
 // Where a string ends: behind its closing quote.
 pub enum Scan {
@@ -59,31 +58,11 @@ fn equal(a: &[u8], b: &[u8]) -> bool
     true
 }
 
-// Whether two names begin with different bytes that stand for themselves.
-fn apart(a: &[u8], b: &[u8]) -> bool
-    ensures { λ r. ⌜ r ≡ isApart (now (a .entry)) (now (b .entry)) ⌝ }
-{
-    let x = peek(a, 0);
-    if !is_plain(x) {
-        return false;
-    }
-    let y = peek(b, 0);
-    if x == y {
-        return false;
-    }
-    is_plain(y)
-}
-
-// Whether two names, each as the bytes between its quotes, have the same characters. Most are told by their first bytes, or have the same bytes.
-pub fn same_name(a: &[u8], b: &[u8]) -> bool
+// Whether two names have the same characters, compared one by one.
+// It is called in two places, so that the compiler keeps it out of `same_name`, whose tests of bytes then stand in its callers.
+fn same_characters(a: &[u8], b: &[u8]) -> bool
     ensures { λ r. ⌜ r ≡ same (characters (now (a .entry))) (characters (now (b .entry))) ⌝ }
 {
-    if apart(a, b) {
-        return false;
-    }
-    if equal(a, b) {
-        return true;
-    }
     let a = &a[..];
     let b = &b[..];
     let mut i = 0;
@@ -113,4 +92,25 @@ pub fn same_name(a: &[u8], b: &[u8]) -> bool
             }
         }
     }
+}
+
+// Whether two names, each as the bytes between its quotes, have the same characters.
+// Most begin with different bytes that stand for themselves, or have the same bytes.
+pub fn same_name(a: &[u8], b: &[u8]) -> bool
+    ensures { λ r. ⌜ r ≡ same (characters (now (a .entry))) (characters (now (b .entry))) ⌝ }
+{
+    let x = peek(a, 0);
+    let y = peek(b, 0);
+    if x != y {
+        if is_plain(x) {
+            if is_plain(y) {
+                return false;
+            }
+        }
+        return same_characters(a, b);
+    }
+    if equal(a, b) {
+        return true;
+    }
+    same_characters(a, b)
 }

@@ -25,15 +25,13 @@ pub enum Generic {
     Other,
 }
 
-// The type that a string names, as the bytes between its quotes.
+// The type that a string names, as the bytes between its quotes. Schema, the rarest, comes last: it begins as String does.
 pub fn named_type(name: &[u8]) -> TypeName
     ensures { λ r. ⌜ r ≡ typeName (namedBy (characters (now (name .entry)))) ⌝ }
 {
+    let name = &name[..];
     if same_name(name, b"JSON") {
         return TypeName::Json;
-    }
-    if same_name(name, b"Schema") {
-        return TypeName::Schema;
     }
     if same_name(name, b"Float") {
         return TypeName::Float;
@@ -50,6 +48,9 @@ pub fn named_type(name: &[u8]) -> TypeName
     if same_name(name, b"DateTime") {
         return TypeName::DateTime;
     }
+    if same_name(name, b"Schema") {
+        return TypeName::Schema;
+    }
     TypeName::Unknown
 }
 
@@ -57,6 +58,7 @@ pub fn named_type(name: &[u8]) -> TypeName
 pub fn generic_name(name: &[u8]) -> Generic
     ensures { λ r. ⌜ r ≡ genericOf (characters (now (name .entry))) ⌝ }
 {
+    let name = &name[..];
     if same_name(name, b"Array") {
         return Generic::Array;
     }

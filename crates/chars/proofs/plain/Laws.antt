@@ -6,13 +6,13 @@ use Prim.Native.Nat.{ℕ, zero, suc, _+_, _-_, _≤_}
 use native.Mathlib.Omega.{arith}
 use lib.ListN.{length}
 use lib.Dec.{leb, ltb, eqb}
-use borrow.Author.Tests.{leb-true, le-leb, le-ltb, lt-ltb, ne-eqb, eqb-false, not-true}
+use borrow.Author.Tests.{leb-true, le-leb, le-ltb, lt-ltb, ne-eqb, not-true}
 use Rattle.chars.specs.declared.characters.Step.the-variants.{Char, Quote}
 use Rattle.chars.specs.Bytes.{byteAt}
 use Rattle.chars.specs.Space.{runFrom, run}
 use Rattle.chars.specs.Characters.{charFrom, charAt}
 use Rattle.chars.specs.Strings.{stringAt, characters}
-use Rattle.chars.specs.Plain.{isPlain, isApart, plainEnd}
+use Rattle.chars.specs.Plain.{isPlain, plainEnd}
 use Rattle.model.specs.Text.{same}
 use Rattle.chars.proofs.bytes.Laws.{both, and-ways}
 use Rattle.chars.proofs.strings.Laws.{string-char, chars-char, differ}
@@ -61,12 +61,7 @@ module _ (s : List ℕ) where
   unfolding run
   plain-string i = sym (from-string (length s - i) i)
 
--- names that begin with different plain bytes have different characters
-pub apart-names : (a b : List ℕ) → isApart a b ≡ true → same (characters a) (characters b) ≡ false
-unfolding isApart
-apart-names a b t =
-    let x = byteAt a 0 in
-    let y = byteAt b 0 in
-    and-ways (isPlain x && not (eqb x y)) (isPlain y) t
-    (λ u q. and-ways (isPlain x) (not (eqb x y)) u
-    (λ p n. differ (chars-char a 0 x 1 (plain-char a 0 p)) (chars-char b 0 y 1 (plain-char b 0 q)) (eqb-false x y (not-true (eqb x y) n))))
+-- names that begin with different plain bytes
+module _ (a b : List ℕ) {x y : ℕ} where
+  pub plain-apart : x ≡ byteAt a 0 → y ≡ byteAt b 0 → (x ≡ y → ⊥) → isPlain x ≡ true → isPlain y ≡ true → same (characters a) (characters b) ≡ false
+  plain-apart e g n p q = differ (chars-char a 0 x 1 (plain-read a 0 e p refl)) (chars-char b 0 y 1 (plain-read b 0 g q refl)) n

@@ -1,112 +1,59 @@
--- `chars::strings::same_name` meets its contract. The loop's invariant: the names are the same where what is left of them is.
-use mathlib.Core.Path.{_≡_, refl, sym, _∙_}
-use Prim.Native.Nat.{_-_}
-use native.Mathlib.Omega.{arith}
+-- `chars::strings::same_name` meets its contract: different plain bytes are the first characters of the names; the same bytes have the same characters.
+use mathlib.Core.Path.{sym, _∙_}
 use borrow.Author.Needs.{needs}
-use denote.Ref.{now}
-use lib.ListN.{length}
-use Rattle.chars.specs.declared.characters.Step.the-variants.{Char}
-use Rattle.chars.specs.Characters.{charAt}
-use Rattle.chars.specs.Strings.{characters, charsAt}
-use Rattle.model.specs.Text.{same}
-use Rattle.chars.proofs.strings.Laws.{char-next, chars-char, chars-none, differ, alike, longer, shorter, ended}
 use Rattle.chars.proofs.strings.Meaning.{same-names}
-use Rattle.chars.proofs.plain.Laws.{apart-names}
+use Rattle.chars.proofs.plain.Laws.{plain-apart}
 use Rattle.chars.proofs.strings.same_name.Statement.{statement}
 use Rattle.chars.proofs.strings.same_name.Tie as tie
 
-abbrev Inv-loop : tie.InvT-loop
-Inv-loop a b a' b' i₀ j₀ i j = same (characters a) (characters b) ≡ same (charsAt a' i) (charsAt b' j)
+peek-requires : tie.Need-peek-requires
+peek-requires c κs = search needs
 
-abbrev μ-loop : tie.MeasureT-loop
-μ-loop a b a' b' i₀ j₀ i j = length a' - i
+peek-requires-2 : tie.Need-peek-requires-2
+peek-requires-2 c κs = search needs
 
-apart-requires : tie.Need-apart-requires Inv-loop μ-loop
-apart-requires c κs = search needs
+is-plain-requires : tie.Need-is-plain-requires
+is-plain-requires c κs = search needs
 
-returns : tie.Need-returns Inv-loop μ-loop
-returns c = sym (apart-names _ _ (sym (c .before .apart .ensures) ∙ c .if1 .taken))
+is-plain-requires-2 : tie.Need-is-plain-requires-2
+is-plain-requires-2 c κs = search needs
 
-equal-requires : tie.Need-equal-requires Inv-loop μ-loop
+returns : tie.Need-returns
+returns c =
+    let d = c .before .before .before .before in
+    sym (plain-apart _ _ (d .before .before .peek .ensures) (d .before .peek2 .ensures) (d .if1 .taken)
+    (sym (c .before .before .before .is-plain .ensures) ∙ c .before .before .if2 .taken) (sym (c .before .is-plain2 .ensures) ∙ c .if3 .taken))
+
+same-characters-requires : tie.Need-same-characters-requires
+same-characters-requires c κs = search needs
+
+returns-2 : tie.Need-returns-2
+returns-2 c = search needs
+
+equal-requires : tie.Need-equal-requires
 equal-requires c κs = search needs
 
-returns-2 : tie.Need-returns-2 Inv-loop μ-loop
-returns-2 c = sym (same-names _ _ (sym (c .before .equal .ensures) ∙ c .if2 .taken))
+returns-3 : tie.Need-returns-3
+returns-3 c = sym (same-names _ _ (sym (c .before .equal .ensures) ∙ c .if4 .taken))
 
-loop-holds : tie.Need-loop-holds Inv-loop μ-loop
-loop-holds c = refl
+same-characters-requires-2 : tie.Need-same-characters-requires-2
+same-characters-requires-2 c κs = search needs
 
-char-at-requires : tie.Need-char-at-requires Inv-loop μ-loop
-char-at-requires c κs = search needs
-
-enum-known-x : tie.Need-enum-known-x Inv-loop μ-loop
-enum-known-x c = search needs
-
-char-at-requires-2 : tie.Need-char-at-requires-2 Inv-loop μ-loop
-char-at-requires-2 c κs = search needs
-
-enum-known-y : tie.Need-enum-known-y Inv-loop μ-loop
-enum-known-y c = search needs
-
--- the loop, where both have a character, and the entry
-abbrev turn : tie.After-known-told2 Inv-loop μ-loop → tie.At-loop Inv-loop μ-loop
-turn c = c .before .before .before .before .before .before .before .before
-
-abbrev start : tie.At-loop Inv-loop μ-loop → tie.Start Inv-loop μ-loop
-start l = l .before .before .before .before .before .before .before
-
--- both have a character
-module _ (c : tie.After-known-told2 Inv-loop μ-loop) where
-  pub left : let l = turn c in let x = c .before .before .before .before .before .x .given .0 in charAt (now (start l .args .a)) (l .loop .i) ≡ Char (x .0) (x .1 .0)
-  left = sym (c .before .before .before .before .before .before .before .char-at .ensures) ∙ c .before .before .before .before .before .x .given .1
-
-  pub right : let l = turn c in let y = c .before .y .given .0 in charAt (now (start l .args .b)) (l .loop .j) ≡ Char (y .0) (y .1 .0)
-  right = sym (c .before .before .before .char-at2 .ensures) ∙ c .before .y .given .1
-
-returns-3 : tie.Need-returns-3 Inv-loop μ-loop
-returns-3 c = sym (turn (c .before) .loop .inv ∙ differ (chars-char _ _ _ _ (left (c .before))) (chars-char _ _ _ _ (right (c .before))) (c .if3 .taken))
-
-loop-less : tie.Need-loop-less Inv-loop μ-loop
-loop-less c = omega (arith, char-next _ _ _ _ (left (c .before)))
-
-loop-again : tie.Need-loop-again Inv-loop μ-loop
-loop-again c = turn (c .before) .loop .inv ∙ alike (chars-char _ _ _ _ (left (c .before))) (chars-char _ _ _ _ (right (c .before))) (c .if3 .left)
-
-returns-4 : tie.Need-returns-4 Inv-loop μ-loop
-returns-4 c = sym (c .before .before .before .before .before .before .loop .inv ∙ longer (chars-char _ _ _ _ (sym (c .before .before .before .before .before .char-at .ensures) ∙ c .before .before .before .x .given .1)) (chars-none _ _ _ (c .before .char-at2 .ensures) (c .match2 .keys2)))
-
-char-at-requires-3 : tie.Need-char-at-requires-3 Inv-loop μ-loop
-char-at-requires-3 c κs = search needs
-
-enum-told : tie.Need-enum-told Inv-loop μ-loop
-enum-told c = search needs
-
-returns-5 : tie.Need-returns-5 Inv-loop μ-loop
-returns-5 c = sym (c .before .before .before .before .before .loop .inv ∙ shorter (chars-none _ _ _ (c .before .before .before .before .char-at .ensures) (c .before .before .before .match .keys2)) (chars-char _ _ _ _ (sym (c .before .before .char-at3 .ensures) ∙ c .enum-told .given .1)))
-
-returns-6 : tie.Need-returns-6 Inv-loop μ-loop
-returns-6 c = sym (c .before .before .before .before .loop .inv ∙ ended (chars-none _ _ _ (c .before .before .before .char-at .ensures) (c .before .before .match .keys2)) (chars-none _ _ _ (c .before .char-at3 .ensures) (c .match3 .keys2)))
+returns-4 : tie.Need-returns-4
+returns-4 c = search needs
 
 pub same-name-spec : {M : Type 1} → statement M
 same-name-spec =
     tie.close
     (tie.spec
-    Inv-loop
-    μ-loop
-    apart-requires
+    peek-requires
+    peek-requires-2
+    is-plain-requires
+    is-plain-requires-2
     returns
-    equal-requires
+    same-characters-requires
     returns-2
-    loop-holds
-    char-at-requires
-    enum-known-x
-    char-at-requires-2
-    enum-known-y
+    equal-requires
     returns-3
-    loop-less
-    loop-again
-    returns-4
-    char-at-requires-3
-    enum-told
-    returns-5
-    returns-6)
+    same-characters-requires-2
+    returns-4)
