@@ -9,5 +9,5 @@ pub mod Numbers
 pub mod Scalars
 pub mod Spelling
 pub mod Plain
-pub mod Wholes
+pub mod Integers
 pub mod Hashing

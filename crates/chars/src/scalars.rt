@@ -8,8 +8,9 @@ use crate::tokens::Token;
 use crate::tokens::unexpected;
 ghost use mathlib.Core.Path.{_≡_};
 ghost use Rattle.chars.specs.Tokens.{tokenOf, kindNumber, Kind};
-ghost use Rattle.chars.specs.Scalars.{firstOf, wordAt, quoted, scalarAt};
-ghost use Rattle.chars.specs.Wholes.{WholeStep};
+ghost use Rattle.chars.specs.Bytes.{byteAt};
+ghost use Rattle.chars.specs.Scalars.{firstOf, wordAt, quoted, scalarBy};
+ghost use Rattle.chars.specs.Integers.{integerEnd};
 ghost use Rattle.chars.specs.Strings.{stringAt};
 ghost use Prim.Native.Nat.{_<_, _+_};
 ghost use lib.ListN.{length};
@@ -27,7 +28,7 @@ pub enum First {
 }
 
 // The first byte of a value decides what is read.
-pub fn begins(b: u8) -> First
+fn begins(b: u8) -> First
     ensures { λ r. ⌜ r ≡ firstOf b ⌝ }
 {
     match b {
@@ -41,6 +42,13 @@ pub fn begins(b: u8) -> First
         b't' => First::LetterT,
         _ => First::Other,
     }
+}
+
+// What the value at a place begins with.
+pub fn first_at(text: &[u8], at: usize) -> First
+    ensures { λ r. ⌜ r ≡ firstOf (byteAt (now (text .entry)) at) ⌝ }
+{
+    begins(peek(text, at))
 }
 
 // The bytes of a word stand at a place.
@@ -71,11 +79,14 @@ fn string(text: &[u8], at: usize) -> Token
     }
 }
 
-// The value at a place that holds no other.
-pub fn scalar(text: &[u8], at: usize) -> Token
-    ensures { λ r. ⌜ r ≡ tokenOf (scalarAt (now (text .entry)) at) ⌝ }
+// The value at a place that holds no other, by what it begins with.
+pub fn scalar(first: First, text: &[u8], at: usize) -> Token
+    ensures { λ r. ⌜ r ≡ tokenOf (scalarBy first (now (text .entry)) at) ⌝ }
 {
-    match begins(peek(text, at)) {
+    if at >= text.len() {
+        return unexpected(text, at);
+    }
+    match first {
         First::Quote => string(text, at),
         First::Number => number(text, at),
         First::LetterN => literal(text, at, b"null", 1),
@@ -86,8 +97,8 @@ pub fn scalar(text: &[u8], at: usize) -> Token
 }
 
 // The place behind the number at a place that has digits alone and begins with no 0; the place itself where none stands there.
-pub fn whole_end(text: &[u8], at: usize) -> usize
-    ensures { λ r. ⌜ WholeStep (now (text .entry)) at r ⌝ }
+pub fn integer_end(text: &[u8], at: usize) -> usize
+    ensures { λ r. ⌜ r ≡ integerEnd (now (text .entry)) at ⌝ }
 {
     match peek(text, at) {
         b'1'..=b'9' => {

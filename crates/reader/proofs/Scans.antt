@@ -18,9 +18,9 @@ use Rattle.chars.specs.Tokens.{Kind, Whole, tokenOf}
 use Rattle.chars.specs.Scalars.{firstOf, scalarAt}
 use Rattle.chars.specs.declared.scalars.First.{First}
 use Rattle.chars.specs.declared.scalars.First.the-variants.{Array, Object, Number}
-use Rattle.chars.specs.Wholes.{WholeStep}
+use Rattle.chars.specs.Integers.{integerEnd}
 use Rattle.chars.specs.declared.tokens.Token.the-variants.{Taken}
-use Rattle.chars.proofs.Facts.{run-from, run-within, first-array, first-object, array-first as begins-array, scalar-bounded}
+use Rattle.chars.proofs.Facts.{run-from, run-within, first-array, first-object, scalar-bounded, integer-read}
 use Rattle.chars.proofs.scalars.First.{the-type}
 use Rattle.chars.specs.declared.hashing.Hashed.{Hashed}
 use Rattle.chars.specs.declared.hashing.Hashed.the-variants.{Name, Broken}
@@ -29,14 +29,14 @@ use Rattle.reader.specs.Rows.{row as rowOf, count, countMembers, size, s
 use Rattle.reader.specs.Grammar.{nameOf, itemsAt, listAt, elementAt, arrayAt, nameAt, memberAt, objectAt, leafAt, valueAt}
 use Rattle.reader.specs.Marks.{leafMark, listMark, nameMark, isName, rowIn, rowsIn}
 use Rattle.reader.specs.Names.{nameFirst, nameEnd, nameIn, ownHash, Owned, Fresh, Within, Kept, bucketOf, Index, NameReady, hashedOf, NameTold}
-use Rattle.reader.specs.Passes.{scanOf, Room, LeafReady, Ready, ListFits, Follows, LeafAfter, LeafTold, Marked, After, Told, MemberReady, MemberMarked, MemberScan, MemberTold}
+use Rattle.reader.specs.Passes.{scanOf, Begun, Room, LeafReady, Ready, ListFits, Follows, LeafAfter, LeafTold, Marked, After, Told, MemberReady, MemberMarked, MemberScan, MemberTold}
 use Rattle.reader.specs.declared.scanning.Following.{Following}
 use Rattle.reader.specs.declared.scanning.Following.the-variants.{Closing, Item, Other}
 use Rattle.reader.specs.declared.scanning.Scanned.{Scanned}
 use Rattle.reader.specs.declared.scanning.Scanned.the-variants.{Refused, Value}
 use Rattle.reader.proofs.Items.{Reads, unexpected-both, item-takes, items-refused, items-next, items-close, items-bad, list-empty, list-items, byte-in}
 use Rattle.reader.proofs.Sizes.{sizes-add, sizesMembers-add, count-add, countMembers-add, count-few, countMembers-few, wordsAll-add, wordsMembers-add}
-use Rattle.reader.proofs.Values.{value-deep-array, value-array, value-deep-object, value-object, first-leaf, value-leaf, leaf-parsed, name-within, name-takes}
+use Rattle.reader.proofs.Values.{value-deep-array, value-array, value-deep-object, value-object, first-opens, first-leaf, value-leaf, leaf-parsed, name-within, name-takes}
 use Rattle.reader.proofs.Values.{member-parsed, member-bare, member-value, element-reads, member-reads, value-takes}
 use Rattle.reader.proofs.Outcomes.{scan-refused, scan-value}
 use Rattle.reader.proofs.Leaves.{leaf-fits, leaf-noted}
@@ -781,10 +781,6 @@ module _ {s hs ms hs₁ ms₁ : List ℕ} {d o row i k : ℕ} {r : Scanned} {hs�
 
 -- ---- values
 
--- f is what the byte at i begins
-pub record Begun (s : List ℕ) (i : ℕ) (f : First) : Type 0 where
-  pub first : f ≡ firstOf (byteAt s i)
-
 module _ {s : List ℕ} {i : ℕ} {f : First} (b : Begun s i f) where
   pub array-in : f ≡ Array → i < length s
   array-in q = byte-in s i 0x5B (omega arith) (first-array (byteAt s i) (sym (b .first) ∙ q))
@@ -793,11 +789,9 @@ module _ {s : List ℕ} {i : ℕ} {f : First} (b : Begun s i f) where
   object-in q = byte-in s i 0x7B (omega arith) (first-object (byteAt s i) (sym (b .first) ∙ q))
 
   module _ (d : ℕ) {row : ℕ} {ms hs₂ ms₂ : List ℕ} where
-    pub array-deep : f ≡ Array → d ≡ 0 → Told s (valueAt d s i) (Refused 7 i) row ms hs₂ ms₂
-    array-deep q n = answer-refused (value-deep-array d s i (sym (b .first) ∙ q) n)
-
-    pub object-deep : f ≡ Object → d ≡ 0 → Told s (valueAt d s i) (Refused 7 i) row ms hs₂ ms₂
-    object-deep q n = answer-refused (value-deep-object d s i (sym (b .first) ∙ q) n)
+    pub told-deep : OneOf (0 ∷ 1 ∷ []) (tagOf the-type f) → d ≡ 0 → Told s (valueAt d s i) (Refused 7 i) row ms hs₂ ms₂
+    told-deep h n =
+        answer-refused (elim (first-opens f h) [ inl q ↦ value-deep-array d s i (sym (b .first) ∙ q) n | inr q ↦ value-deep-object d s i (sym (b .first) ∙ q) n ])
 
     module _ {r : Scanned} where
       pub told-array : f ≡ Array → (d ≡ 0 → ⊥) → Told s (arrayAt (valueAt (d - 1) s) s i) r row ms hs₂ ms₂ → Told s (valueAt d s i) r row ms hs₂ ms₂
@@ -809,20 +803,6 @@ module _ {s : List ℕ} {i : ℕ} {f : First} (b : Begun s i f) where
 -- the brackets that may open in an array or object
 pub opens-ready : {s hs ms : List ℕ} {d row i : ℕ} → (d ≡ 0 → ⊥) → Ready s hs ms d row i → Ready s hs ms (d - 1 + 1) row i
 opens-ready {d = d} n r = let z : d - 1 + 1 ≡ d = omega arith in rw z r
-
--- a bracket stands at i
-module _ {s hs ms : List ℕ} {d row i x : ℕ} (p : Ready s hs ms d row i) (y : x ≡ byteAt s i) (q : x ≡ 0x5B) where
-  bracket-begun : Begun s i Array
-  bracket-begun = record { first = sym (begins-array (byteAt s i) (sym y ∙ q)) }
-
-  pub bracket-deep : {hs₂ ms₂ : List ℕ} → d ≡ 0 → Told s (valueAt d s i) (Refused 7 i) row ms hs₂ ms₂
-  bracket-deep n = array-deep bracket-begun d refl n
-
-  pub bracket-ready : (d ≡ 0 → ⊥) → Ready s hs ms (d - 1 + 1) row i × (i < length s)
-  bracket-ready n = (opens-ready n p, array-in bracket-begun refl)
-
-  pub told-bracket : {r : Scanned} {hs₂ ms₂ : List ℕ} → (d ≡ 0 → ⊥) → Told s (arrayAt (valueAt (d - 1) s) s i) r row ms hs₂ ms₂ → Told s (valueAt d s i) r row ms hs₂ ms₂
-  told-bracket n o = told-array bracket-begun d refl n o
 
 -- there is a place for the row of a value that holds no other
 pub leaf-free : {s hs ms : List ℕ} {d row i : ℕ} → Ready s hs ms d row i → (length s ≤ 65536) × (i < length s → row < length ms)
@@ -871,19 +851,19 @@ not-object : Number ≡ Object → ⊥
 not-object q = let z : _≡_ {A = ℕ} 0 1 = cc in omega arith
 
 -- a number of digits alone
-module _ {s hs ms : List ℕ} {d row i e : ℕ} (p : Ready s hs ms d row i) (w : WholeStep s i e) (l : i < e) where
-  whole-is : (firstOf (byteAt s i) ≡ Number) × (scalarAt s i ≡ parsed Whole e)
-  whole-is = elim w [ inl q ↦ absurd (omega arith) | inr q ↦ q ]
+module _ {s hs ms : List ℕ} {d row i e : ℕ} (p : Ready s hs ms d row i) (w : e ≡ integerEnd s i) (l : i < e) where
+  integer-is : (firstOf (byteAt s i) ≡ Number) × (scalarAt s i ≡ parsed Whole e)
+  integer-is = rw w (integer-read s i (omega (arith, w)))
 
-  whole-ready : LeafReady s ms row i
-  whole-ready = let f = leaf-free p in record { short = f .0; free = f .1 }
+  integer-ready : LeafReady s ms row i
+  integer-ready = let f = leaf-free p in record { short = f .0; free = f .1 }
 
-  whole-token : Taken 4 e ≡ tokenOf (scalarAt s i)
-  whole-token = rw (whole-is .1)
+  integer-token : Taken 4 e ≡ tokenOf (scalarAt s i)
+  integer-token = rw (integer-is .1)
 
-  pub whole-fits : ((4 < 65536) × (i < e) × (e ≤ 65536)) × (row < length ms)
-  whole-fits = leaf-fits whole-ready whole-token refl
+  pub integer-fits : ((4 < 65536) × (i < e) × (e ≤ 65536)) × (row < length ms)
+  integer-fits = leaf-fits integer-ready integer-token refl
 
-  pub told-whole : {m : ℕ} → m ≡ leafMark 4 i e → Told s (valueAt d s i) (Value e 1) row ms hs (set ms row m)
-  told-whole {m} q =
-      as-leaf (set ms row m) p (λ z. not-array (sym (whole-is .0) ∙ z)) (λ z. not-object (sym (whole-is .0) ∙ z)) (leaf-noted whole-ready whole-token refl q)
+  pub told-integer : {m : ℕ} → m ≡ leafMark 4 i e → Told s (valueAt d s i) (Value e 1) row ms hs (set ms row m)
+  told-integer {m} q =
+      as-leaf (set ms row m) p (λ z. not-array (sym (integer-is .0) ∙ z)) (λ z. not-object (sym (integer-is .0) ∙ z)) (leaf-noted integer-ready integer-token refl q)

@@ -1,12 +1,12 @@
 -- Values: which way each goes, what was read where one stands, and what it takes of the text.
 use mathlib.Core.Path.{_≡_, refl, ap, _∙_}
 use mathlib.Core.List.{List, [], _∷_}
-use mathlib.Core.Logic.{inl, inr}
+use mathlib.Core.Logic.{_⊎_, inl, inr}
 use mathlib.Core.Bool.{true, false}
 use Prim.Native.Nat.{ℕ, zero, suc, _+_, _*_, _-_, _≤_, _<_}
 use native.Mathlib.Omega.{arith}
 use lib.ListN.{length, List·getD-eq-default}
-use lib.Dec.{eqb}
+use lib.Dec.{eqb, lit<}
 use types.Run.{OneOf}
 use denote.Enum.Declared.{tagOf}
 use borrow.Author.Tests.{eqb-true, ne-eqb}
@@ -74,6 +74,35 @@ module _ (d : ℕ) (s : List ℕ) (i : ℕ) where
       go LetterF n m = refl
       go LetterT n m = refl
       go Other n m = refl
+
+-- a tag above those of `Array` and `Object`
+above : {t : ℕ} → OneOf (0 ∷ 1 ∷ []) t → 1 < t → ⊥
+above (inl e) l = omega arith
+above (inr e) l = omega arith
+
+-- by its tag it opens an array or an object
+pub first-opens : (f : First) → OneOf (0 ∷ 1 ∷ []) (tagOf the-type f) → (f ≡ Array) ⊎ (f ≡ Object)
+first-opens Array h = inl refl
+first-opens Object h = inr refl
+first-opens Quote h = absurd (above h (lit< tt))
+first-opens Number h = absurd (above h (lit< tt))
+first-opens LetterN h = absurd (above h (lit< tt))
+first-opens LetterF h = absurd (above h (lit< tt))
+first-opens LetterT h = absurd (above h (lit< tt))
+first-opens Other h = absurd (above h (lit< tt))
+
+-- of the two, what is no array is an object
+pub opens-object : (f : First) → OneOf (0 ∷ 1 ∷ []) (tagOf the-type f) → OneOf (1 ∷ 2 ∷ 3 ∷ 4 ∷ 5 ∷ 6 ∷ 7 ∷ []) (tagOf the-type f) → f ≡ Object
+opens-object f h k = elim (first-opens f h) [ inl q ↦ absurd (later (rw q at k)) | inr q ↦ q ]
+  where
+    later : OneOf (1 ∷ 2 ∷ 3 ∷ 4 ∷ 5 ∷ 6 ∷ 7 ∷ []) 0 → ⊥
+    later (inl e) = omega arith
+    later (inr (inl e)) = omega arith
+    later (inr (inr (inl e))) = omega arith
+    later (inr (inr (inr (inl e)))) = omega arith
+    later (inr (inr (inr (inr (inl e))))) = omega arith
+    later (inr (inr (inr (inr (inr (inl e)))))) = omega arith
+    later (inr (inr (inr (inr (inr (inr e)))))) = omega arith
 
 -- what begins neither an array nor an object
 pub first-leaf : (f : First) → OneOf (2 ∷ 3 ∷ 4 ∷ 5 ∷ 6 ∷ 7 ∷ []) (tagOf the-type f) → (f ≡ Array → ⊥) × (f ≡ Object → ⊥)

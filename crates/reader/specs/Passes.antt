@@ -8,6 +8,8 @@ use lib.Seq.{slice}
 use Rattle.chars.specs.Bytes.{byteAt}
 use Rattle.chars.specs.Parse.{Parse, refused, parsed}
 use Rattle.chars.specs.Space.{skip}
+use Rattle.chars.specs.Scalars.{firstOf}
+use Rattle.chars.specs.declared.scalars.First.{First}
 use Rattle.reader.specs.Tree.{Node, Members}
 use Rattle.reader.specs.Rows.{size, sizesMembers, words, wordsMembers}
 use Rattle.reader.specs.Grammar.{valueAt, memberAt}
@@ -33,6 +35,10 @@ pub record Room (s ms : List ℕ) : Type 0 where
 pub record LeafReady (s ms : List ℕ) (row i : ℕ) : Type 0 where
   pub short : length s ≤ 65536
   pub free : i < length s → row < length ms
+
+-- f is what the byte at i begins
+pub record Begun (s : List ℕ) (i : ℕ) (f : First) : Type 0 where
+  pub first : f ≡ firstOf (byteAt s i)
 
 -- a value at a place, with d more brackets allowed to open, and its row free from `row` on
 pub record Ready (s hs ms : List ℕ) (d row i : ℕ) : Type 0 where

@@ -5,6 +5,7 @@ use crate::filling::fill;
 use crate::limits::Limits;
 use crate::scanning::Scanned;
 use crate::scanning::value;
+use chars::first_at;
 use chars::skip;
 ghost use mathlib.Core.Path.{_≡_};
 ghost use Prim.Native.Nat.{min, _≤_};
@@ -26,7 +27,7 @@ fn read_in(
     ensures rows { λ _. ⌜ now (table .exit) ≡ tableOf (now (table .entry)) (wholeAt depth (now (text .entry))) ⌝ }
 {
     let start = skip(text, 0);
-    match value(text, heads, marks, 0, start, depth) {
+    match value(first_at(text, start), text, heads, marks, 0, start, depth) {
         Scanned::Refused { code, place } => Scanned::Refused { code, place },
         Scanned::Value { end, rows } => {
             let j = skip(text, end);

@@ -6,11 +6,11 @@ use crate::names::push;
 use chars::First;
 use chars::Hashed;
 use chars::Token;
-use chars::begins;
+use chars::first_at;
+use chars::integer_end;
 use chars::peek;
 use chars::scalar;
 use chars::skip;
-use chars::whole_end;
 ghost use mathlib.Core.Path.{_≡_};
 ghost use Prim.Native.Nat.{_+_, _<_};
 ghost use mathlib.Core.Bool.{false};
@@ -19,7 +19,7 @@ ghost use Rattle.chars.specs.Parse.{unexpected};
 ghost use Rattle.chars.specs.Space.{isSpace, skip as skipped};
 ghost use Rattle.reader.specs.Grammar.{leafAt, valueAt, arrayAt, objectAt};
 ghost use Rattle.reader.specs.Marks.{listMark};
-ghost use Rattle.reader.specs.Passes.{scanOf, LeafReady, LeafTold, ListFits, Follows, Ready, Told, MemberReady, MemberTold};
+ghost use Rattle.reader.specs.Passes.{scanOf, Begun, LeafReady, LeafTold, ListFits, Follows, Ready, Told, MemberReady, MemberTold};
 ghost use Rattle.reader.specs.declared.scanning.Scanned.the-variants.{Value};
 
 // A value: where it ends and how many rows it has; or a refusal.
@@ -42,12 +42,12 @@ fn refuse(text: &[u8], at: usize) -> Scanned
     }
 }
 
-// The value at a place that holds no other.
-fn leaf(text: &[u8], marks: &mut [u64], row: usize, at: usize) -> Scanned
-    requires { ⌜ LeafReady (now text) (now marks) row at ⌝ }
+// The value at a place that holds no other, by what it begins with.
+fn leaf(first: First, text: &[u8], marks: &mut [u64], row: usize, at: usize) -> Scanned
+    requires { ⌜ LeafReady (now text) (now marks) row at × Begun (now text) at first ⌝ }
     ensures { λ r. ⌜ LeafTold (leafAt (now (text .entry)) at) r row (now (marks .entry)) (now (marks .exit)) ⌝ }
 {
-    match scalar(text, at) {
+    match scalar(first, text, at) {
         Token::Broken { code, place } => Scanned::Refused { code, place },
         Token::Taken { kind, end } => {
             marks[row] = leaf_mark(kind, at, end);
@@ -121,8 +121,9 @@ fn close(
     Scanned::Value { end, rows }
 }
 
-// The value at a place, with `depth` more brackets allowed to open, and the marks free from `row` on.
+// The value at a place, by what it begins with, with `depth` more brackets allowed to open, and the marks free from `row` on.
 pub fn value(
+    first: First,
     text: &[u8],
     heads: &mut [u16],
     marks: &mut [u64],
@@ -130,27 +131,25 @@ pub fn value(
     at: usize,
     depth: usize,
 ) -> Scanned
-    requires { ⌜ Ready (now text) (now heads) (now marks) depth row at ⌝ }
+    requires { ⌜ Ready (now text) (now heads) (now marks) depth row at × Begun (now text) at first ⌝ }
     ensures { λ r. ⌜ Told (now (text .entry)) (valueAt depth (now (text .entry)) at) r row (now (marks .entry)) (now (heads .exit)) (now (marks .exit)) ⌝ }
 {
-    match begins(peek(text, at)) {
-        First::Array => {
-            if depth == 0 {
-                return Scanned::Refused { code: 7, place: at };
-            }
-            array(text, heads, marks, row, at, depth - 1)
+    match first {
+        First::Array | First::Object => {}
+        _ => {
+            return leaf(first, text, marks, row, at);
         }
-        First::Object => {
-            if depth == 0 {
-                return Scanned::Refused { code: 7, place: at };
-            }
-            object(text, heads, marks, row, at, depth - 1)
-        }
-        _ => leaf(text, marks, row, at),
+    }
+    if depth == 0 {
+        return Scanned::Refused { code: 7, place: at };
+    }
+    match first {
+        First::Array => array(text, heads, marks, row, at, depth - 1),
+        _ => object(text, heads, marks, row, at, depth - 1),
     }
 }
 
-// The same of an element or of what stands under a name: a number of digits alone is told without a further call.
+// The value at a place, an element or what stands under a name. Most numbers are digits alone: these are told without a further call.
 fn item(
     text: &[u8],
     heads: &mut [u16],
@@ -162,12 +161,18 @@ fn item(
     requires { ⌜ Ready (now text) (now heads) (now marks) depth row at ⌝ }
     ensures { λ r. ⌜ Told (now (text .entry)) (valueAt depth (now (text .entry)) at) r row (now (marks .entry)) (now (heads .exit)) (now (marks .exit)) ⌝ }
 {
-    let end = whole_end(text, at);
-    if end > at {
-        marks[row] = leaf_mark(4, at, end);
-        return Scanned::Value { end, rows: 1 };
+    let first = first_at(text, at);
+    match first {
+        First::Number => {
+            let end = integer_end(text, at);
+            if end > at {
+                marks[row] = leaf_mark(4, at, end);
+                return Scanned::Value { end, rows: 1 };
+            }
+        }
+        _ => {}
     }
-    value(text, heads, marks, row, at, depth)
+    value(first, text, heads, marks, row, at, depth)
 }
 
 // The array whose bracket stands at a place.
@@ -212,70 +217,6 @@ fn array(
     }
 }
 
-// The same under a name. The compiler merges a function that is called once into its caller, so an array and the object around it
-// take one call together: a processor foretells only so many returns.
-fn named_array(
-    text: &[u8],
-    heads: &mut [u16],
-    marks: &mut [u64],
-    row: usize,
-    at: usize,
-    depth: usize,
-) -> Scanned
-    requires { ⌜ Ready (now text) (now heads) (now marks) (depth + 1) row at × (at < length (now text)) ⌝ }
-    ensures { λ r. ⌜ Told (now (text .entry)) (arrayAt (valueAt depth (now (text .entry))) (now (text .entry)) at) r row (now (marks .entry)) (now (heads .exit)) (now (marks .exit)) ⌝ }
-{
-    let mut i = skip(text, at + 1);
-    if peek(text, i) == b']' {
-        return close(marks, 0, row, at, i + 1, 0, 1);
-    }
-    let mut rows: usize = 1;
-    let mut children: usize = 0;
-    loop {
-        match item(text, heads, marks, row + rows, i, depth) {
-            Scanned::Refused { code, place } => {
-                return Scanned::Refused { code, place };
-            }
-            Scanned::Value { end, rows: more } => {
-                rows += more;
-                children += 1;
-                match behind(text, end, b']') {
-                    Following::Closing { end: e } => {
-                        return close(marks, 0, row, at, e, children, rows);
-                    }
-                    Following::Item { at: next } => {
-                        i = next;
-                    }
-                    Following::Other { at: j } => {
-                        return refuse(text, j);
-                    }
-                }
-            }
-        }
-    }
-}
-
-// What stands under a name.
-fn under(
-    text: &[u8],
-    heads: &mut [u16],
-    marks: &mut [u64],
-    row: usize,
-    at: usize,
-    depth: usize,
-) -> Scanned
-    requires { ⌜ Ready (now text) (now heads) (now marks) depth row at ⌝ }
-    ensures { λ r. ⌜ Told (now (text .entry)) (valueAt depth (now (text .entry)) at) r row (now (marks .entry)) (now (heads .exit)) (now (marks .exit)) ⌝ }
-{
-    if peek(text, at) == b'[' {
-        if depth == 0 {
-            return Scanned::Refused { code: 7, place: at };
-        }
-        return named_array(text, heads, marks, row, at, depth - 1);
-    }
-    item(text, heads, marks, row, at, depth)
-}
-
 // The member at a place of the object at row `object`, with the marks free from `row` on.
 fn member(
     text: &[u8],
@@ -298,7 +239,7 @@ fn member(
                 return refuse(text, j);
             }
             let k = skip(text, j + 1);
-            match under(text, heads, marks, row + 1, k, depth) {
+            match item(text, heads, marks, row + 1, k, depth) {
                 Scanned::Refused { code, place } => Scanned::Refused { code, place },
                 Scanned::Value { end, rows } => Scanned::Value {
                     end,

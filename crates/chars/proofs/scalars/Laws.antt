@@ -1,29 +1,31 @@
 -- Values that hold no other: what their first byte says, where they end, and how they are spelled.
 use mathlib.Core.Path.{_≡_, refl, sym, _∙_, subst}
 use mathlib.Core.List.{List, [], _∷_}
-use mathlib.Core.Bool.{true, _||_, or-true}
+use mathlib.Core.Bool.{true, false, cond, _||_, _&&_, or-true}
 use Prim.Native.Nat.{ℕ, _+_, _-_, _≤_, _<_}
 use native.Mathlib.Decide.{decLt}
 use native.Mathlib.Omega.{arith}
 use lib.ListN.{length, List·getD-eq-default}
-use lib.Dec.{eqb, ltb}
-use borrow.Author.Tests.{eqb-true, ltb-true, lt-ltb, le-leb, ne-eqb}
+use lib.Dec.{eqb, leb, ltb}
+use borrow.Author.Tests.{eq-eqb, eqb-true, leb-true, ltb-true, lt-ltb, lt-leb, le-leb, ne-eqb}
 use Rattle.model.specs.Text.{text, all, isScalar, isText}
 use Rattle.model.specs.Value.{isDigit}
+use Rattle.model.proofs.Basics.{or-false}
 use Rattle.chars.specs.declared.strings.Scan.{Scan}
 use Rattle.chars.specs.declared.strings.Scan.the-variants.{Ends, Stopped}
 use Rattle.chars.specs.declared.scalars.First.{First}
 use Rattle.chars.specs.declared.scalars.First.the-variants.{Array, Object, Quote, Number, LetterN, LetterF, LetterT, Other}
 use Rattle.chars.specs.Bytes.{byteAt}
 use Rattle.chars.specs.Parse.{Parse, refused, parsed, unexpected}
-use Rattle.chars.specs.Strings.{stringAt, charsAt, characters, part}
+use Rattle.chars.specs.Strings.{stringFrom, stringAt, charsAt, characters, part}
 use Rattle.chars.specs.Tokens.{Kind, Null, False, True, Whole}
 use Rattle.chars.specs.Numbers.{digitsEnd, wholeEnd, exponentAt, fractionAt, unsignedAt, numberAt}
 use Rattle.chars.specs.Scalars.{firstOf, wordAt, quoted, scalarBy, scalarAt}
 use Rattle.chars.specs.Spelling.{Spells, IsQuoted}
+use Rattle.chars.specs.Integers.{goesOn, integerEnd}
 use Rattle.chars.proofs.bytes.Laws.{both, and-ways, in-text}
 use Rattle.chars.proofs.characters.Laws.{Scalar}
-use Rattle.chars.proofs.space.Laws.{run-next, run-from}
+use Rattle.chars.proofs.space.Laws.{run-next, run-from, run-end}
 use Rattle.chars.proofs.strings.Laws.{ScanAhead, string-ahead, string-close}
 use Rattle.chars.proofs.strings.Parts.{body-characters}
 use Rattle.chars.proofs.strings.Meaning.{Scalars, scalars}
@@ -136,10 +138,25 @@ module _ (s : List ℕ) (i : ℕ) where
   pub scalar-spelled : Spelled s i (scalarAt s i)
   scalar-spelled = good-by (firstOf (byteAt s i)) (first-is (byteAt s i)) .1
 
+  nothing : length s ≤ i → byteAt s i ≡ 0
+  nothing h = List·getD-eq-default s 0 h
+
+  -- behind the text nothing begins a value, whatever the first byte is said to be
+  pub by-end : (f : First) → length s ≤ i → scalarBy f s i ≡ unexpected s i
+  unfolding stringAt stringFrom numberAt unsignedAt wholeEnd wordAt
+  by-end Quote h = let z : length s - (i + 1) ≡ 0 = omega arith in rw (z, unexpected-end {A = Kind} s i h)
+  by-end Number h = rw (nothing h, run-end isDigit s i h, eq-eqb i i refl)
+  by-end LetterN h = rw (nothing h)
+  by-end LetterF h = rw (nothing h)
+  by-end LetterT h = rw (nothing h)
+  by-end Array h = refl
+  by-end Object h = refl
+  by-end Other h = refl
+
   -- behind the text
   pub scalar-end : length s ≤ i → scalarAt s i ≡ refused 2 (length s)
   unfolding firstOf
-  scalar-end h = let z : byteAt s i ≡ 0 = List·getD-eq-default s 0 h in rw z (unexpected-end s i h)
+  scalar-end h = rw (nothing h) (unexpected-end s i h)
 
 pub scalar-spells : (s : List ℕ) (i e : ℕ) (k : Kind) → scalarAt s i ≡ parsed k e → Spells k s i e
 scalar-spells s i e k q = rw q at (scalar-spelled s i)
@@ -166,7 +183,8 @@ scalars-text (v ∷ t) h = rw (scalar-test v (h .0)) (scalars-text t (h .1))
 pub characters-text : (s : List ℕ) → isText (characters s) ≡ true
 characters-text s = scalars-text (characters s) (scalars s 0)
 
--- a number of digits alone that begins with no 0
+-- ---- a number of digits alone that begins with no 0
+
 module _ (s : List ℕ) (i : ℕ) (l : 0x31 ≤ byteAt s i) (m : byteAt s i ≤ 0x39) where
   abbrev ending : ℕ
   ending = digitsEnd s (i + 1)
@@ -183,22 +201,48 @@ module _ (s : List ℕ) (i : ℕ) (l : 0x31 ≤ byteAt s i) (m : byteAt s i ≤ 
   all-digits : digitsEnd s i ≡ ending
   all-digits = run-next isDigit s i (in-text s i (omega arith)) is-digit
 
-  goes-on : i < ending
-  goes-on = omega (arith, run-from isDigit s (i + 1))
+  begins-on : i < ending
+  begins-on = omega (arith, run-from isDigit s (i + 1))
 
-  pub whole-read : (byteAt s ending ≡ 0x2E → ⊥) → (byteAt s ending ≡ 0x45 → ⊥) → (byteAt s ending ≡ 0x65 → ⊥)
-      → (firstOf (byteAt s i) ≡ Number) × (scalarAt s i ≡ parsed Whole ending)
-  unfolding numberAt unsignedAt wholeEnd fractionAt exponentAt
-  whole-read a b c = (
-    number-begins,
-    rw (
-      number-begins,
-      ne-eqb (byteAt s i) 0x2D (λ q. omega arith),
-      ne-eqb (byteAt s i) 0x30 (λ q. omega arith),
-      all-digits,
-      ne-eqb ending i (λ q. omega (arith, goes-on)),
-      ne-eqb (byteAt s ending) 0x2E a,
-      ne-eqb (byteAt s ending) 0x45 b,
-      ne-eqb (byteAt s ending) 0x65 c,
-    ),
-  )
+  digits-read : goesOn (byteAt s ending) ≡ false → (firstOf (byteAt s i) ≡ Number) × (scalarAt s i ≡ parsed Whole ending)
+  unfolding goesOn numberAt unsignedAt wholeEnd fractionAt exponentAt
+  digits-read g =
+      let x = or-false (eqb (byteAt s ending) 0x2E) (eqb (byteAt s ending) 0x45 || eqb (byteAt s ending) 0x65) g in (
+        number-begins,
+        rw (
+          number-begins,
+          ne-eqb (byteAt s i) 0x2D (λ q. omega arith),
+          ne-eqb (byteAt s i) 0x30 (λ q. omega arith),
+          all-digits,
+          ne-eqb ending i (λ q. omega (arith, begins-on)),
+          x .0,
+          x .1,
+        ),
+      )
+
+  -- x is the byte behind the digits
+  pub integer-by : {x : ℕ} → x ≡ byteAt s ending → integerEnd s i ≡ cond (goesOn x) i ending
+  unfolding integerEnd
+  integer-by q = rw (le-leb 0x31 (byteAt s i) l, le-leb (byteAt s i) 0x39 m, q)
+
+-- where none stands
+module _ (s : List ℕ) (i : ℕ) where
+  pub integer-below : byteAt s i < 0x31 → integerEnd s i ≡ i
+  unfolding integerEnd
+  integer-below l = rw (lt-leb 0x31 (byteAt s i) l)
+
+  pub integer-above : 0x31 ≤ byteAt s i → 0x39 < byteAt s i → integerEnd s i ≡ i
+  unfolding integerEnd
+  integer-above l m = rw (le-leb 0x31 (byteAt s i) l, lt-leb (byteAt s i) 0x39 m)
+
+-- where one stands, it is read so
+pub integer-read : (s : List ℕ) (i : ℕ) → i < integerEnd s i → (firstOf (byteAt s i) ≡ Number) × (scalarAt s i ≡ parsed Whole (integerEnd s i))
+unfolding integerEnd
+integer-read s i =
+    let b = byteAt s i in
+    let e = digitsEnd s (i + 1) in
+    let P : ℕ → Type 0 = λ r. i < r → (firstOf b ≡ Number) × (scalarAt s i ≡ parsed Whole r) in
+    both P (leb 0x31 b && leb b 0x39)
+    (λ t. both P (goesOn (byteAt s e)) (λ _ l. absurd (omega arith))
+    (λ g _. and-ways (leb 0x31 b) (leb b 0x39) t (λ l m. digits-read s i (leb-true 0x31 b l) (leb-true b 0x39 m) g)))
+    (λ _ l. absurd (omega arith))

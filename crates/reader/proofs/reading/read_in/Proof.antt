@@ -10,8 +10,14 @@ use Rattle.reader.proofs.reading.read_in.Tie as tie
 skip-requires : tie.Need-skip-requires
 skip-requires c κs = search needs
 
+first-at-requires : tie.Need-first-at-requires
+first-at-requires c κs = search needs
+
 value-requires : tie.Need-value-requires
-value-requires c κs = ready _ _ (c .before .before .skip .ensures) (c .before .before .before .before .before .before .before .pre)
+value-requires c κs = (
+  ready _ _ (c .before .before .before .skip .ensures) (c .before .before .before .before .before .before .before .before .pre),
+  record { first = c .before .before .first-at .ensures },
+)
 
 -- the first pass is over
 module _ (c : tie.After-slice-known5) where
@@ -19,10 +25,10 @@ module _ (c : tie.After-slice-known5) where
   over = c .before .before .before .before
 
   abbrev start : tie.Start
-  start = over .before .before .before .before .before .before .before .before
+  start = over .before .before .before .before .before .before .before .before .before
 
-  begun : over .before .before .before .skip .result ≡ skip (start .args .text .now) 0
-  begun = over .before .before .before .skip .ensures
+  begun : over .before .before .before .before .skip .result ≡ skip (start .args .text .now) 0
+  begun = over .before .before .before .before .skip .ensures
 
 enum-known-code : tie.Need-enum-known-code
 enum-known-code c = search needs
@@ -48,7 +54,7 @@ fill-requires : tie.Need-fill-requires
 fill-requires c κs =
     let v = c .before .before .before .before .before .before .before .before in (
       marks-few _ _ (begun v) (over v .value .ensures) (c .before .before .before .before .before .before .end .given .1)
-          (start v .pre .room) (over v .value .kept .1 .1 .0),
+          (start v .pre .room) (over v .value .kept .1 .1 .1 .0),
       omega arith,
     )
 
@@ -94,6 +100,7 @@ read-in-spec =
     tie.close
     (tie.spec
     skip-requires
+    first-at-requires
     value-requires
     enum-known-code
     enum-known-end

@@ -1,47 +1,43 @@
--- The first pass meets its contracts. The measure is five times the brackets allowed to open, with four more in `array`, `named_array` and `object`, three in `member`, two in `under` and one in `item`.
+-- The first pass meets its contracts. The measure is four times the brackets allowed to open, with three more in `array` and `object`, two in `member` and one in `item`.
 -- The loops' invariants are `InArray` and `InObject`; `Scans` has a law for each way out of their bodies. Below each member's name stands what is known at its places.
-use Prim.Native.Nat.{ℕ, _+_, _-_, _*_, _<_}
-use mathlib.Core.Path.{_≡_, sym, ap, _∙_}
+use Prim.Native.Nat.{ℕ, _+_, _-_, _*_, _≤_, _<_}
+use mathlib.Core.Path.{_≡_, sym, _∙_}
 use native.Mathlib.Omega.{arith}
 use borrow.Author.Needs.{needs}
 use lib.ListN.{length, getD, length-set}
-use Rattle.chars.specs.Scalars.{firstOf}
+use Rattle.chars.specs.declared.scalars.First.the-variants.{Object}
 use Rattle.reader.specs.Names.{bucketOf}
+use Rattle.reader.specs.Passes.{Ready}
 use Rattle.reader.proofs.Following.{array-closing, object-closing, colon-sign}
 use Rattle.reader.proofs.Scans.{Opened, turn-takes, turn-fits, turn-close, turn-bad, turn-on}
 use Rattle.reader.proofs.Scans.{InArray, ElementTurn, array-empty-fits, array-empty, array-first, array-ready, array-refused, array-turn, element-few, array-next}
 use Rattle.reader.proofs.Scans.{InObject, MemberTurn, object-empty-fits, object-empty, object-first, object-ready, object-refused, object-turn, member-few, object-next}
 use Rattle.reader.proofs.Scans.{NameRead, Named, name-ready, name-read, name-room, name-link, told-unnamed, told-bare, name-behind, named-ready, named-rows}
 use Rattle.reader.proofs.Scans.{told-valueless, told-member}
-use Rattle.reader.proofs.Scans.{Begun, array-in, object-in, array-deep, object-deep, told-leaf, told-array, told-object, opens-ready, bracket-deep, bracket-ready, told-bracket, leaf-free}
-use Rattle.reader.proofs.Scans.{whole-fits, told-whole}
+use Rattle.reader.proofs.Scans.{array-in, object-in, told-deep, told-leaf, told-array, told-object, opens-ready, leaf-free}
+use Rattle.reader.proofs.Scans.{integer-fits, told-integer}
+use Rattle.reader.proofs.Values.{opens-object}
 use borrow.Fn.Kinds.{In}
 use borrow.Fn.PlainCycle.{Measures, is, falls, and}
 use Rattle.reader.proofs.scanning.array.Reads as array
 use Rattle.reader.proofs.scanning.array.Kinds as array-kinds
-use Rattle.reader.proofs.scanning.+array+item+member+named_array+object+under+value.Lts-array as array-lts
+use Rattle.reader.proofs.scanning.+array+item+member+object+value.Lts-array as array-lts
 use Rattle.reader.proofs.scanning.item.Reads as item
 use Rattle.reader.proofs.scanning.item.Kinds as item-kinds
-use Rattle.reader.proofs.scanning.+array+item+member+named_array+object+under+value.Lts-item as item-lts
+use Rattle.reader.proofs.scanning.+array+item+member+object+value.Lts-item as item-lts
 use Rattle.reader.proofs.scanning.member.Reads as member
 use Rattle.reader.proofs.scanning.member.Kinds as member-kinds
-use Rattle.reader.proofs.scanning.+array+item+member+named_array+object+under+value.Lts-member as member-lts
-use Rattle.reader.proofs.scanning.named_array.Reads as named-array
-use Rattle.reader.proofs.scanning.named_array.Kinds as named-array-kinds
-use Rattle.reader.proofs.scanning.+array+item+member+named_array+object+under+value.Lts-named_array as named-array-lts
+use Rattle.reader.proofs.scanning.+array+item+member+object+value.Lts-member as member-lts
 use Rattle.reader.proofs.scanning.object.Reads as object
 use Rattle.reader.proofs.scanning.object.Kinds as object-kinds
-use Rattle.reader.proofs.scanning.+array+item+member+named_array+object+under+value.Lts-object as object-lts
-use Rattle.reader.proofs.scanning.under.Reads as under
-use Rattle.reader.proofs.scanning.under.Kinds as under-kinds
-use Rattle.reader.proofs.scanning.+array+item+member+named_array+object+under+value.Lts-under as under-lts
+use Rattle.reader.proofs.scanning.+array+item+member+object+value.Lts-object as object-lts
 use Rattle.reader.proofs.scanning.value.Reads as value
 use Rattle.reader.proofs.scanning.value.Kinds as value-kinds
-use Rattle.reader.proofs.scanning.+array+item+member+named_array+object+under+value.Lts-value as value-lts
+use Rattle.reader.proofs.scanning.+array+item+member+object+value.Lts-value as value-lts
 use Rattle.chars.proofs.peek.Reads as peek-reads
-use Rattle.chars.proofs.begins.Reads as begins-reads
+use Rattle.chars.proofs.first_at.Reads as first-at-reads
+use Rattle.chars.proofs.integer_end.Reads as integer-end-reads
 use Rattle.chars.proofs.skip.Reads as skip-reads
-use Rattle.chars.proofs.whole_end.Reads as whole-end-reads
 use Rattle.reader.proofs.marks.leaf_mark.Reads as leaf-mark-reads
 use Rattle.reader.proofs.names.name.Reads as name-reads
 use Rattle.reader.proofs.names.push.Reads as push-reads
@@ -50,29 +46,23 @@ use Rattle.reader.proofs.scanning.close.Reads as close-reads
 use Rattle.reader.proofs.scanning.leaf.Reads as leaf-reads
 use Rattle.reader.proofs.scanning.refuse.Reads as refuse-reads
 use Rattle.reader.proofs.scanning.skip_to.Reads as skip-to-reads
-use Rattle.reader.proofs.scanning.+array+item+member+named_array+object+under+value.{statement}
-use Rattle.reader.proofs.scanning.+array+item+member+named_array+object+under+value.Tie.{close}
+use Rattle.reader.proofs.scanning.+array+item+member+object+value.{statement}
+use Rattle.reader.proofs.scanning.+array+item+member+object+value.Tie.{close}
 
 abbrev μ-array : Measures 3 array-kinds.ps ℕ
-μ-array κs a = 5 * a .1 .1 .1 .1 .1 .0 + 4
+μ-array κs a = 4 * a .1 .1 .1 .1 .1 .0 + 3
 
 abbrev μ-item : Measures 3 item-kinds.ps ℕ
-μ-item κs a = 5 * a .1 .1 .1 .1 .1 .0 + 1
+μ-item κs a = 4 * a .1 .1 .1 .1 .1 .0 + 1
 
 abbrev μ-member : Measures 3 member-kinds.ps ℕ
-μ-member κs a = 5 * a .1 .1 .1 .1 .1 .1 .0 + 3
-
-abbrev μ-named-array : Measures 3 named-array-kinds.ps ℕ
-μ-named-array κs a = 5 * a .1 .1 .1 .1 .1 .0 + 4
+μ-member κs a = 4 * a .1 .1 .1 .1 .1 .1 .0 + 2
 
 abbrev μ-object : Measures 3 object-kinds.ps ℕ
-μ-object κs a = 5 * a .1 .1 .1 .1 .1 .0 + 4
-
-abbrev μ-under : Measures 3 under-kinds.ps ℕ
-μ-under κs a = 5 * a .1 .1 .1 .1 .1 .0 + 2
+μ-object κs a = 4 * a .1 .1 .1 .1 .1 .0 + 3
 
 abbrev μ-value : Measures 3 value-kinds.ps ℕ
-μ-value κs a = 5 * a .1 .1 .1 .1 .1 .0
+μ-value κs a = 4 * a .1 .1 .1 .1 .1 .1 .0
 
 abbrev array-at : ℕ → In 3 array-kinds.ps
 array-at t = and 3 array-kinds.ps (is 3 array-kinds.ps μ-array t) array.Pre
@@ -92,23 +82,11 @@ member-at t = and 3 member-kinds.ps (is 3 member-kinds.ps μ-member t) member.Pr
 abbrev member-below : ℕ → In 3 member-kinds.ps
 member-below t = and 3 member-kinds.ps (falls 3 member-kinds.ps _<_ μ-member t) member.Pre
 
-abbrev named-array-at : ℕ → In 3 named-array-kinds.ps
-named-array-at t = and 3 named-array-kinds.ps (is 3 named-array-kinds.ps μ-named-array t) named-array.Pre
-
-abbrev named-array-below : ℕ → In 3 named-array-kinds.ps
-named-array-below t = and 3 named-array-kinds.ps (falls 3 named-array-kinds.ps _<_ μ-named-array t) named-array.Pre
-
 abbrev object-at : ℕ → In 3 object-kinds.ps
 object-at t = and 3 object-kinds.ps (is 3 object-kinds.ps μ-object t) object.Pre
 
 abbrev object-below : ℕ → In 3 object-kinds.ps
 object-below t = and 3 object-kinds.ps (falls 3 object-kinds.ps _<_ μ-object t) object.Pre
-
-abbrev under-at : ℕ → In 3 under-kinds.ps
-under-at t = and 3 under-kinds.ps (is 3 under-kinds.ps μ-under t) under.Pre
-
-abbrev under-below : ℕ → In 3 under-kinds.ps
-under-below t = and 3 under-kinds.ps (falls 3 under-kinds.ps _<_ μ-under t) under.Pre
 
 abbrev value-at : ℕ → In 3 value-kinds.ps
 value-at t = and 3 value-kinds.ps (is 3 value-kinds.ps μ-value t) value.Pre
@@ -260,8 +238,10 @@ module _ (t : ℕ) where
 
 abbrev item-claims : ℕ → item-lts.Claims
 item-claims t = (
-  whole-end-reads.Asked,
-  whole-end-reads.Learnt,
+  first-at-reads.Asked,
+  first-at-reads.Learnt,
+  integer-end-reads.Asked,
+  integer-end-reads.Learnt,
   leaf-mark-reads.Asked,
   leaf-mark-reads.Learnt,
   value-below t,
@@ -269,32 +249,44 @@ item-claims t = (
 )
 
 module _ (t : ℕ) where
-  item-whole-end-requires : item-lts.Need-whole-end-requires (item-claims t) (item-at t) item.Post
-  item-whole-end-requires c κs = tt
+  item-first-at-requires : item-lts.Need-first-at-requires (item-claims t) (item-at t) item.Post
+  item-first-at-requires c κs = tt
+
+  item-enum-told : item-lts.Need-enum-told (item-claims t) (item-at t) item.Post
+  item-enum-told c = search needs
+
+  item-integer-end-requires : item-lts.Need-integer-end-requires (item-claims t) (item-at t) item.Post
+  item-integer-end-requires c κs = tt
+
+  -- a number of digits alone
+  item-fits : (c : item-lts.Then1 (item-claims t) (item-at t) item.Post) →
+      let a = c .before .before .before .before .before .before .before .before .args in
+      ((4 < 65536) × (a .at < c .before .integer-end .result) × (c .before .integer-end .result ≤ 65536)) × (a .row < length (a .marks .now))
+  item-fits c = integer-fits (c .before .before .before .before .before .before .before .before .pre .1) (c .before .integer-end .ensures) (c .if1 .taken)
 
   item-leaf-mark-requires : item-lts.Need-leaf-mark-requires (item-claims t) (item-at t) item.Post
-  item-leaf-mark-requires c κs = whole-fits (c .before .before .before .before .before .pre .1) (c .before .whole-end .ensures) (c .if1 .taken) .0
+  item-leaf-mark-requires c κs = item-fits c .0
 
   item-mul-marks : item-lts.Need-mul-marks (item-claims t) (item-at t) item.Post
-  item-mul-marks c = omega (arith, whole-fits (c .before .before .before .before .before .before .pre .1) (c .before .before .whole-end .ensures) (c .before .if1 .taken) .1)
+  item-mul-marks c = omega (arith, item-fits (c .before) .1)
 
   item-slice-write-marks : item-lts.Need-slice-write-marks (item-claims t) (item-at t) item.Post
-  item-slice-write-marks c = whole-fits (c .before .before .before .before .before .before .pre .1) (c .before .before .whole-end .ensures) (c .before .if1 .taken) .1
+  item-slice-write-marks c = item-fits (c .before) .1
 
   item-same-length : item-lts.Need-same-length (item-claims t) (item-at t) item.Post
   item-same-length c = simp length-set
 
   item-returns : item-lts.Need-returns (item-claims t) (item-at t) item.Post
-  item-returns c = told-whole (c .before .before .before .before .before .before .pre .1) (c .before .before .whole-end .ensures) (c .before .if1 .taken) (c .leaf-mark .ensures)
+  item-returns c = told-integer (c .before .before .before .before .before .before .before .before .before .pre .1) (c .before .before .integer-end .ensures) (c .before .if1 .taken) (c .leaf-mark .ensures)
 
   item-value-requires : item-lts.Need-value-requires (item-claims t) (item-at t) item.Post
-  item-value-requires c κs = (omega arith, c .before .before .before .before .before .before .before .pre .1)
+  item-value-requires c κs = (omega arith, (c .before .before .before .before .before .before .before .pre .1, record { first = c .before .before .before .first-at .ensures }))
 
   item-same-length-2 : item-lts.Need-same-length-2 (item-claims t) (item-at t) item.Post
-  item-same-length-2 c = c .before .before .before .before .value .kept .1 .0
+  item-same-length-2 c = c .before .before .before .before .value .kept .1 .1 .0
 
   item-same-length-3 : item-lts.Need-same-length-3 (item-claims t) (item-at t) item.Post
-  item-same-length-3 c = c .before .before .before .before .value .kept .1 .1 .0
+  item-same-length-3 c = c .before .before .before .before .value .kept .1 .1 .1 .0
 
   item-returns-2 : item-lts.Need-returns-2 (item-claims t) (item-at t) item.Post
   item-returns-2 c = c .before .before .before .before .value .ensures
@@ -315,8 +307,8 @@ member-claims t = (
   refuse-reads.Learnt,
   skip-reads.Asked,
   skip-reads.Learnt,
-  under-below t,
-  under.Post,
+  item-below t,
+  item.Post,
 )
 
 module _ (t : ℕ) where
@@ -389,11 +381,11 @@ module _ (t : ℕ) where
   member-skip-requires : member-lts.Need-skip-requires (member-claims t) (member-at t) member.Post
   member-skip-requires c κs = tt
 
-  member-add-under : member-lts.Need-add-under (member-claims t) (member-at t) member.Post
-  member-add-under c = let r = named-ready (member-named (c .before .before)) in omega (arith, r .rowed, r .inside)
+  member-add-item : member-lts.Need-add-item (member-claims t) (member-at t) member.Post
+  member-add-item c = let r = named-ready (member-named (c .before .before)) in omega (arith, r .rowed, r .inside)
 
-  member-under-requires : member-lts.Need-under-requires (member-claims t) (member-at t) member.Post
-  member-under-requires c κs = (omega arith, named-ready (member-named (c .before .before)))
+  member-item-requires : member-lts.Need-item-requires (member-claims t) (member-at t) member.Post
+  member-item-requires c κs = (omega arith, named-ready (member-named (c .before .before)))
 
   member-enum-known-code-2 : member-lts.Need-enum-known-code-2 (member-claims t) (member-at t) member.Post
   member-enum-known-code-2 c = search needs
@@ -402,7 +394,7 @@ module _ (t : ℕ) where
   member-enum-known-end c = search needs
 
   member-add-t38 : member-lts.Need-add-t38 (member-claims t) (member-at t) member.Post
-  member-add-t38 c = omega (arith, named-rows (member-named (c .before .before .before .before .before .before .before .before .before .before)) (c .before .before .before .before .before .before .before .under .ensures) (c .before .end .given .1))
+  member-add-t38 c = omega (arith, named-rows (member-named (c .before .before .before .before .before .before .before .before .before .before)) (c .before .before .before .before .before .before .before .item .ensures) (c .before .end .given .1))
 
   member-same-length-3 : member-lts.Need-same-length-3 (member-claims t) (member-at t) member.Post
   member-same-length-3 c = search needs
@@ -414,162 +406,22 @@ module _ (t : ℕ) where
   member-returns-2 c = told-unnamed (c .before .before .before .before .before .before .before .before .before .pre .1) (c .before .before .before .name .ensures) (c .before .code .given .1)
 
   member-same-length-5 : member-lts.Need-same-length-5 (member-claims t) (member-at t) member.Post
-  member-same-length-5 c = c .before .before .before .before .before .before .before .under .kept .1 .0 ∙ c .before .before .before .before .before .before .before .before .before .before .before .before .before .before .before .before .before .before .push .kept .0
+  member-same-length-5 c = c .before .before .before .before .before .before .before .item .kept .1 .0 ∙ c .before .before .before .before .before .before .before .before .before .before .before .before .before .before .before .before .before .before .push .kept .0
 
   member-same-length-6 : member-lts.Need-same-length-6 (member-claims t) (member-at t) member.Post
-  member-same-length-6 c = c .before .before .before .before .before .before .before .under .kept .1 .1 .0 ∙ c .before .before .before .before .before .before .before .before .before .before .before .before .before .before .before .before .before .before .push .kept .1 .0
+  member-same-length-6 c = c .before .before .before .before .before .before .before .item .kept .1 .1 .0 ∙ c .before .before .before .before .before .before .before .before .before .before .before .before .before .before .before .before .before .before .push .kept .1 .0
 
   member-returns-3 : member-lts.Need-returns-3 (member-claims t) (member-at t) member.Post
-  member-returns-3 c = told-valueless (member-named (c .before .before .before .before .before .before .before .before .before .before)) (c .before .before .before .before .before .before .before .under .ensures) (c .before .code2 .given .1)
+  member-returns-3 c = told-valueless (member-named (c .before .before .before .before .before .before .before .before .before .before)) (c .before .before .before .before .before .before .before .item .ensures) (c .before .code2 .given .1)
 
   member-same-length-7 : member-lts.Need-same-length-7 (member-claims t) (member-at t) member.Post
-  member-same-length-7 c = c .before .before .before .before .before .before .before .under .kept .1 .0 ∙ c .before .before .before .before .before .before .before .before .before .before .before .before .before .before .before .before .before .before .push .kept .0
+  member-same-length-7 c = c .before .before .before .before .before .before .before .item .kept .1 .0 ∙ c .before .before .before .before .before .before .before .before .before .before .before .before .before .before .before .before .before .before .push .kept .0
 
   member-same-length-8 : member-lts.Need-same-length-8 (member-claims t) (member-at t) member.Post
-  member-same-length-8 c = c .before .before .before .before .before .before .before .under .kept .1 .1 .0 ∙ c .before .before .before .before .before .before .before .before .before .before .before .before .before .before .before .before .before .before .push .kept .1 .0
+  member-same-length-8 c = c .before .before .before .before .before .before .before .item .kept .1 .1 .0 ∙ c .before .before .before .before .before .before .before .before .before .before .before .before .before .before .before .before .before .before .push .kept .1 .0
 
   member-returns-4 : member-lts.Need-returns-4 (member-claims t) (member-at t) member.Post
-  member-returns-4 c = told-member (member-named (c .before .before .before .before .before .before .before .before .before .before)) (c .before .before .before .before .before .before .before .under .ensures) (c .before .before .before .before .before .before .before .under .kept .1 .1 .0) (c .before .end .given .1)
-
--- ---- named_array
-
-abbrev named-array-claims : ℕ → named-array-lts.Claims
-named-array-claims t = (
-  skip-reads.Asked,
-  skip-reads.Learnt,
-  peek-reads.Asked,
-  peek-reads.Learnt,
-  close-reads.Asked,
-  close-reads.Learnt,
-  item-below t,
-  item.Post,
-  behind-reads.Asked,
-  behind-reads.Learnt,
-  refuse-reads.Asked,
-  refuse-reads.Learnt,
-)
-
-abbrev named-array-Inv-loop : named-array-lts.InvT-loop
-named-array-Inv-loop text heads₀ marks₀ row at depth i₀ rows₀ children₀ heads marks i rows children = InArray text depth at row heads₀ marks₀ heads marks rows children i
-
-abbrev named-array-μ-loop : named-array-lts.MeasureT-loop
-named-array-μ-loop text heads₀ marks₀ row at depth i₀ rows₀ children₀ heads marks i rows children = length text - i
-
-module _ (t : ℕ) where
-  -- behind the space after the opening byte
-  named-array-opened : (c : named-array-lts.After-peek (named-array-claims t) (named-array-at t) named-array.Post named-array-Inv-loop named-array-μ-loop) →
-      let a = c .before .before .before .before .before .args in Opened (a .text .now) (a .heads .now) (a .marks .now) (a .depth) (a .row) (a .at) (c .before .skip .result) (c .peek .result)
-  named-array-opened c = let p = c .before .before .before .before .before .pre .1 in record { ready = p .0; opens = p .1; place = c .before .skip .ensures; byte = c .peek .ensures }
-
-  -- with one more element
-  named-array-turned : (c : named-array-lts.After-known-told2 (named-array-claims t) (named-array-at t) named-array.Post named-array-Inv-loop named-array-μ-loop) →
-      let a = c .before .before .before .before .before .before .before .before .before .before .before .before .before .before .before .before .before .args in
-      let v = c .before .before .before .before .before .before .before .item .last in
-      let l = c .before .before .before .before .before .before .before .before .before .before .loop in
-      ElementTurn (a .text .now) (a .depth) (a .at) (a .row) (a .heads .now) (a .marks .now) (v .1 .0) (v .1 .1 .0) (l .rows) (l .children) (l .i) (c .before .end .given .0 .0) (c .before .end .given .0 .1 .0)
-  named-array-turned c = let v = c .before .before .before .before .before .before .before .item in array-turn (c .before .before .before .before .before .before .before .before .before .before .loop .inv) (v .ensures) (v .kept .1 .0) (v .kept .1 .1 .0) (c .before .end .given .1)
-
-  -- the lengths are as they were
-  named-array-lengths : (c : named-array-lts.After-known-told2 (named-array-claims t) (named-array-at t) named-array.Post named-array-Inv-loop named-array-μ-loop) →
-      let a = c .before .before .before .before .before .before .before .before .before .before .before .before .before .before .before .before .before .args in
-      let v = c .before .before .before .before .before .before .before .item .last in
-      (length (v .1 .0) ≡ length (a .heads .now)) × (length (v .1 .1 .0) ≡ length (a .marks .now))
-  named-array-lengths c = let d = named-array-turned c in (d .headed, d .turn .along .marked)
-
-  named-array-add-skip : named-array-lts.Need-add-skip (named-array-claims t) (named-array-at t) named-array.Post named-array-Inv-loop named-array-μ-loop
-  named-array-add-skip c = omega arith
-
-  named-array-skip-requires : named-array-lts.Need-skip-requires (named-array-claims t) (named-array-at t) named-array.Post named-array-Inv-loop named-array-μ-loop
-  named-array-skip-requires c κs = tt
-
-  named-array-peek-requires : named-array-lts.Need-peek-requires (named-array-claims t) (named-array-at t) named-array.Post named-array-Inv-loop named-array-μ-loop
-  named-array-peek-requires c κs = tt
-
-  named-array-add-close : named-array-lts.Need-add-close (named-array-claims t) (named-array-at t) named-array.Post named-array-Inv-loop named-array-μ-loop
-  named-array-add-close c = omega (arith, array-empty-fits (named-array-opened (c .before .before)) (c .before .if1 .taken) .1)
-
-  named-array-close-requires : named-array-lts.Need-close-requires (named-array-claims t) (named-array-at t) named-array.Post named-array-Inv-loop named-array-μ-loop
-  named-array-close-requires c κs = array-empty-fits (named-array-opened (c .before .before)) (c .before .if1 .taken)
-
-  named-array-same-length : named-array-lts.Need-same-length (named-array-claims t) (named-array-at t) named-array.Post named-array-Inv-loop named-array-μ-loop
-  named-array-same-length c = c .before .before .close .kept .0
-
-  named-array-returns : named-array-lts.Need-returns (named-array-claims t) (named-array-at t) named-array.Post named-array-Inv-loop named-array-μ-loop
-  named-array-returns c = rw (c .before .before .close .ensures .0, c .before .before .close .ensures .1) (array-empty (named-array-opened (c .before .before .before .before .before)) (c .before .before .before .before .if1 .taken))
-
-  named-array-loop-holds : named-array-lts.Need-loop-holds (named-array-claims t) (named-array-at t) named-array.Post named-array-Inv-loop named-array-μ-loop
-  named-array-loop-holds c = array-first (named-array-opened (c .before)) (c .if1 .left)
-
-  named-array-add-item : named-array-lts.Need-add-item (named-array-claims t) (named-array-at t) named-array.Post named-array-Inv-loop named-array-μ-loop
-  named-array-add-item c = let r = array-ready (c .before .before .loop .inv) in omega (arith, r .rowed, r .inside)
-
-  named-array-item-requires : named-array-lts.Need-item-requires (named-array-claims t) (named-array-at t) named-array.Post named-array-Inv-loop named-array-μ-loop
-  named-array-item-requires c κs = (omega arith, array-ready (c .before .before .loop .inv))
-
-  named-array-enum-known-code : named-array-lts.Need-enum-known-code (named-array-claims t) (named-array-at t) named-array.Post named-array-Inv-loop named-array-μ-loop
-  named-array-enum-known-code c = search needs
-
-  named-array-same-length-2 : named-array-lts.Need-same-length-2 (named-array-claims t) (named-array-at t) named-array.Post named-array-Inv-loop named-array-μ-loop
-  named-array-same-length-2 c = c .before .before .before .before .before .before .before .item .kept .1 .0 ∙ c .before .before .before .before .before .before .before .before .before .before .loop .inv .headed
-
-  named-array-same-length-3 : named-array-lts.Need-same-length-3 (named-array-claims t) (named-array-at t) named-array.Post named-array-Inv-loop named-array-μ-loop
-  named-array-same-length-3 c = c .before .before .before .before .before .before .before .item .kept .1 .1 .0 ∙ c .before .before .before .before .before .before .before .before .before .before .loop .inv .along .marked
-
-  named-array-returns-2 : named-array-lts.Need-returns-2 (named-array-claims t) (named-array-at t) named-array.Post named-array-Inv-loop named-array-μ-loop
-  named-array-returns-2 c = array-refused (c .before .before .before .before .before .before .before .before .before .before .loop .inv) (c .before .before .before .before .before .before .before .item .ensures) (c .before .code .given .1)
-
-  named-array-enum-known-end : named-array-lts.Need-enum-known-end (named-array-claims t) (named-array-at t) named-array.Post named-array-Inv-loop named-array-μ-loop
-  named-array-enum-known-end c = search needs
-
-  named-array-add-rows : named-array-lts.Need-add-rows (named-array-claims t) (named-array-at t) named-array.Post named-array-Inv-loop named-array-μ-loop
-  named-array-add-rows c = omega (arith, turn-takes (named-array-turned c .turn))
-
-  named-array-add-children : named-array-lts.Need-add-children (named-array-claims t) (named-array-at t) named-array.Post named-array-Inv-loop named-array-μ-loop
-  named-array-add-children c = omega (arith, element-few (named-array-turned c), turn-takes (named-array-turned c .turn))
-
-  named-array-behind-requires : named-array-lts.Need-behind-requires (named-array-claims t) (named-array-at t) named-array.Post named-array-Inv-loop named-array-μ-loop
-  named-array-behind-requires c κs = array-closing
-
-  named-array-enum-known-e : named-array-lts.Need-enum-known-e (named-array-claims t) (named-array-at t) named-array.Post named-array-Inv-loop named-array-μ-loop
-  named-array-enum-known-e c = search needs
-
-  named-array-close-requires-2 : named-array-lts.Need-close-requires-2 (named-array-claims t) (named-array-at t) named-array.Post named-array-Inv-loop named-array-μ-loop
-  named-array-close-requires-2 c κs = let d = named-array-turned (c .before .before .before .before .before) in turn-fits (d .turn) (c .before .before .before .before .behind .ensures) (c .before .before .e .given .1) (d .kids)
-
-  named-array-same-length-4 : named-array-lts.Need-same-length-4 (named-array-claims t) (named-array-at t) named-array.Post named-array-Inv-loop named-array-μ-loop
-  named-array-same-length-4 c = named-array-lengths (c .before .before .before .before .before .before .before .before) .0
-
-  named-array-same-length-5 : named-array-lts.Need-same-length-5 (named-array-claims t) (named-array-at t) named-array.Post named-array-Inv-loop named-array-μ-loop
-  named-array-same-length-5 c = c .before .before .close2 .kept .0 ∙ named-array-lengths (c .before .before .before .before .before .before .before .before) .1
-
-  named-array-returns-3 : named-array-lts.Need-returns-3 (named-array-claims t) (named-array-at t) named-array.Post named-array-Inv-loop named-array-μ-loop
-  named-array-returns-3 c =
-      let d = named-array-turned (c .before .before .before .before .before .before .before .before) in
-      rw (c .before .before .close2 .ensures .0, c .before .before .close2 .ensures .1) (turn-close (d .turn) (c .before .before .before .before .before .before .before .behind .ensures) (c .before .before .before .before .before .e .given .1) (d .kids) (d .filled))
-
-  named-array-enum-known-next : named-array-lts.Need-enum-known-next (named-array-claims t) (named-array-at t) named-array.Post named-array-Inv-loop named-array-μ-loop
-  named-array-enum-known-next c = search needs
-
-  named-array-loop-less : named-array-lts.Need-loop-less (named-array-claims t) (named-array-at t) named-array.Post named-array-Inv-loop named-array-μ-loop
-  named-array-loop-less c = omega (arith, turn-on (named-array-turned (c .before .before .before .before) .turn) (c .before .before .before .behind .ensures) (c .before .next .given .1))
-
-  named-array-loop-again : named-array-lts.Need-loop-again (named-array-claims t) (named-array-at t) named-array.Post named-array-Inv-loop named-array-μ-loop
-  named-array-loop-again c = array-next (named-array-turned (c .before .before .before .before)) (c .before .before .before .behind .ensures) (c .before .next .given .1)
-
-  named-array-enum-known-j : named-array-lts.Need-enum-known-j (named-array-claims t) (named-array-at t) named-array.Post named-array-Inv-loop named-array-μ-loop
-  named-array-enum-known-j c = search needs
-
-  named-array-refuse-requires : named-array-lts.Need-refuse-requires (named-array-claims t) (named-array-at t) named-array.Post named-array-Inv-loop named-array-μ-loop
-  named-array-refuse-requires c κs = tt
-
-  named-array-same-length-6 : named-array-lts.Need-same-length-6 (named-array-claims t) (named-array-at t) named-array.Post named-array-Inv-loop named-array-μ-loop
-  named-array-same-length-6 c = named-array-lengths (c .before .before .before .before .before) .0
-
-  named-array-same-length-7 : named-array-lts.Need-same-length-7 (named-array-claims t) (named-array-at t) named-array.Post named-array-Inv-loop named-array-μ-loop
-  named-array-same-length-7 c = named-array-lengths (c .before .before .before .before .before) .1
-
-  named-array-returns-4 : named-array-lts.Need-returns-4 (named-array-claims t) (named-array-at t) named-array.Post named-array-Inv-loop named-array-μ-loop
-  named-array-returns-4 c = turn-bad (named-array-turned (c .before .before .before .before .before) .turn) (c .before .before .before .before .behind .ensures) (c .before .before .j .given .1) (c .refuse .ensures)
+  member-returns-4 c = told-member (member-named (c .before .before .before .before .before .before .before .before .before .before)) (c .before .before .before .before .before .before .before .item .ensures) (c .before .before .before .before .before .before .before .item .kept .1 .1 .0) (c .before .end .given .1)
 
 -- ---- object
 
@@ -711,135 +563,89 @@ module _ (t : ℕ) where
   object-returns-4 : object-lts.Need-returns-4 (object-claims t) (object-at t) object.Post object-Inv-loop object-μ-loop
   object-returns-4 c = turn-bad (object-turned (c .before .before .before .before .before) .turn) (c .before .before .before .before .behind .ensures) (c .before .before .j .given .1) (c .refuse .ensures)
 
--- ---- under
-
-abbrev under-claims : ℕ → under-lts.Claims
-under-claims t = (
-  peek-reads.Asked,
-  peek-reads.Learnt,
-  named-array-below t,
-  named-array.Post,
-  item-below t,
-  item.Post,
-)
-
-module _ (t : ℕ) where
-  under-peek-requires : under-lts.Need-peek-requires (under-claims t) (under-at t) under.Post
-  under-peek-requires c κs = tt
-
-  under-returns : under-lts.Need-returns (under-claims t) (under-at t) under.Post
-  under-returns c = bracket-deep (c .before .before .before .before .before .before .pre .1) (c .before .before .peek .ensures) (c .before .if1 .taken) (c .if2 .taken)
-
-  under-sub-named-array : under-lts.Need-sub-named-array (under-claims t) (under-at t) under.Post
-  under-sub-named-array c = omega (arith, c .before .before .if2 .left)
-
-  under-named-array-requires : under-lts.Need-named-array-requires (under-claims t) (under-at t) under.Post
-  under-named-array-requires c κs = let n = c .before .before .if2 .left in (omega (arith, n), bracket-ready (c .before .before .before .before .before .before .before .before .pre .1) (c .before .before .before .before .peek .ensures) (c .before .before .before .if1 .taken) n)
-
-  under-same-length : under-lts.Need-same-length (under-claims t) (under-at t) under.Post
-  under-same-length c = c .before .before .before .before .named-array .kept .1 .0
-
-  under-same-length-2 : under-lts.Need-same-length-2 (under-claims t) (under-at t) under.Post
-  under-same-length-2 c = c .before .before .before .before .named-array .kept .1 .1 .0
-
-  under-returns-2 : under-lts.Need-returns-2 (under-claims t) (under-at t) under.Post
-  under-returns-2 c = told-bracket (c .before .before .before .before .before .before .before .before .before .before .before .before .before .pre .1) (c .before .before .before .before .before .before .before .before .before .peek .ensures) (c .before .before .before .before .before .before .before .before .if1 .taken) (c .before .before .before .before .before .before .before .if2 .left) (c .before .before .before .before .named-array .ensures)
-
-  under-item-requires : under-lts.Need-item-requires (under-claims t) (under-at t) under.Post
-  under-item-requires c κs = (omega arith, c .before .before .before .before .before .before .before .pre .1)
-
-  under-same-length-3 : under-lts.Need-same-length-3 (under-claims t) (under-at t) under.Post
-  under-same-length-3 c = c .before .before .before .before .item .kept .1 .0
-
-  under-same-length-4 : under-lts.Need-same-length-4 (under-claims t) (under-at t) under.Post
-  under-same-length-4 c = c .before .before .before .before .item .kept .1 .1 .0
-
-  under-returns-3 : under-lts.Need-returns-3 (under-claims t) (under-at t) under.Post
-  under-returns-3 c = c .before .before .before .before .item .ensures
-
 -- ---- value
 
 abbrev value-claims : ℕ → value-lts.Claims
 value-claims t = (
-  peek-reads.Asked,
-  peek-reads.Learnt,
-  begins-reads.Asked,
-  begins-reads.Learnt,
+  leaf-reads.Asked,
+  leaf-reads.Learnt,
   array-below t,
   array.Post,
   object-below t,
   object.Post,
-  leaf-reads.Asked,
-  leaf-reads.Learnt,
 )
 
 module _ (t : ℕ) where
-  -- what the first byte begins
-  value-begun : (c : value-lts.After-begins (value-claims t) (value-at t) value.Post) →
-      Begun (c .before .before .before .before .before .args .text .now) (c .before .before .before .before .before .args .at) (c .begins .result)
-  value-begun c = record { first = c .begins .ensures ∙ ap firstOf (c .before .peek .ensures) }
+  -- a bracket that may open
+  value-opens : (c : value-lts.Else1 (value-claims t) (value-at t) value.Post) →
+      let a = c .before .before .before .before .before .args in Ready (a .text .now) (a .heads .now) (a .marks .now) (a .depth - 1 + 1) (a .row) (a .at)
+  value-opens c = opens-ready (c .if1 .left) (c .before .before .before .before .before .pre .1 .0)
 
-  value-peek-requires : value-lts.Need-peek-requires (value-claims t) (value-at t) value.Post
-  value-peek-requires c κs = tt
+  -- it is a brace
+  value-brace : (c : value-lts.At-match2-keys2 (value-claims t) (value-at t) value.Post) → c .before .before .before .before .before .before .args .first ≡ Object
+  value-brace c = opens-object _ (c .before .before .match .keys1) (c .match2 .keys2)
 
-  value-begins-requires : value-lts.Need-begins-requires (value-claims t) (value-at t) value.Post
-  value-begins-requires c κs = tt
+  value-leaf-requires : value-lts.Need-leaf-requires (value-claims t) (value-at t) value.Post
+  value-leaf-requires c κs =
+      let p = c .before .before .before .before .before .pre .1 in
+      let f = leaf-free (p .0) in (record { short = f .0; free = f .1 }, p .1)
+
+  value-same-length : value-lts.Need-same-length (value-claims t) (value-at t) value.Post
+  value-same-length c = c .before .before .leaf .kept .1 .1 .0
+
+  value-returns : value-lts.Need-returns (value-claims t) (value-at t) value.Post
+  value-returns c =
+      let p = c .before .before .before .before .before .before .before .before .pre .1 in
+      told-leaf _ (p .0) (p .1) (c .before .before .before .before .match .keys2) (c .before .before .leaf .ensures)
+
+  value-returns-2 : value-lts.Need-returns-2 (value-claims t) (value-at t) value.Post
+  value-returns-2 c = told-deep (c .before .before .before .before .before .pre .1 .1) _ (c .before .match .keys1) (c .if1 .taken)
 
   value-enum-told : value-lts.Need-enum-told (value-claims t) (value-at t) value.Post
   value-enum-told c = search needs
 
-  value-returns : value-lts.Need-returns (value-claims t) (value-at t) value.Post
-  value-returns c = array-deep (value-begun (c .before .before .before)) _ (c .before .enum-told .given .1) (c .if1 .taken)
-
   value-sub-array : value-lts.Need-sub-array (value-claims t) (value-at t) value.Post
-  value-sub-array c = omega (arith, c .before .before .if1 .left)
+  value-sub-array c = omega (arith, c .before .before .before .before .if1 .left)
 
   value-array-requires : value-lts.Need-array-requires (value-claims t) (value-at t) value.Post
   value-array-requires c κs =
-      let n = c .before .before .if1 .left in (omega (arith, n), (opens-ready n (c .before .before .before .before .before .before .before .before .before .before .pre .1), array-in (value-begun (c .before .before .before .before .before)) (c .before .before .before .enum-told .given .1)))
-
-  value-enum-told-2 : value-lts.Need-enum-told-2 (value-claims t) (value-at t) value.Post
-  value-enum-told-2 c = search needs
-
-  value-returns-2 : value-lts.Need-returns-2 (value-claims t) (value-at t) value.Post
-  value-returns-2 c = object-deep (value-begun (c .before .before .before)) _ (c .before .enum-told2 .given .1) (c .if2 .taken)
+      let b = c .before .before .before .before in
+      (omega (arith, b .if1 .left), (value-opens b, array-in (b .before .before .before .before .before .pre .1 .1) (c .before .before .enum-told .given .1)))
 
   value-sub-object : value-lts.Need-sub-object (value-claims t) (value-at t) value.Post
-  value-sub-object c = omega (arith, c .before .before .if2 .left)
+  value-sub-object c = omega (arith, c .before .before .before .if1 .left)
 
   value-object-requires : value-lts.Need-object-requires (value-claims t) (value-at t) value.Post
   value-object-requires c κs =
-      let n = c .before .before .if2 .left in (omega (arith, n), (opens-ready n (c .before .before .before .before .before .before .before .before .before .before .pre .1), object-in (value-begun (c .before .before .before .before .before)) (c .before .before .before .enum-told2 .given .1)))
-
-  value-leaf-requires : value-lts.Need-leaf-requires (value-claims t) (value-at t) value.Post
-  value-leaf-requires c κs = let f = leaf-free (c .before .before .before .before .before .before .before .pre .1) in record { short = f .0; free = f .1 }
-
-  value-same-length : value-lts.Need-same-length (value-claims t) (value-at t) value.Post
-  value-same-length c = c .before .before .before .before .array .kept .1 .0
+      let b = c .before .before .before in
+      (omega (arith, b .if1 .left), (value-opens b, object-in (b .before .before .before .before .before .pre .1 .1) (value-brace (c .before .before))))
 
   value-same-length-2 : value-lts.Need-same-length-2 (value-claims t) (value-at t) value.Post
-  value-same-length-2 c = c .before .before .before .before .array .kept .1 .1 .0
-
-  value-returns-3 : value-lts.Need-returns-3 (value-claims t) (value-at t) value.Post
-  value-returns-3 c = told-array (value-begun (c .before .before .before .before .before .before .before .before .before .before)) _ (c .before .before .before .before .before .before .before .before .enum-told .given .1) (c .before .before .before .before .before .before .before .if1 .left) (c .before .before .before .before .array .ensures)
+  value-same-length-2 c = c .before .before .before .before .array .kept .1 .0
 
   value-same-length-3 : value-lts.Need-same-length-3 (value-claims t) (value-at t) value.Post
-  value-same-length-3 c = c .before .before .before .before .object .kept .1 .0
+  value-same-length-3 c = c .before .before .before .before .array .kept .1 .1 .0
+
+  value-returns-3 : value-lts.Need-returns-3 (value-claims t) (value-at t) value.Post
+  value-returns-3 c =
+      let m = c .before .before .before .before .before .before .before in
+      let b = m .before .before in
+      told-array (b .before .before .before .before .before .pre .1 .1) _ (m .enum-told .given .1) (b .if1 .left) (c .before .before .before .before .array .ensures)
 
   value-same-length-4 : value-lts.Need-same-length-4 (value-claims t) (value-at t) value.Post
-  value-same-length-4 c = c .before .before .before .before .object .kept .1 .1 .0
-
-  value-returns-4 : value-lts.Need-returns-4 (value-claims t) (value-at t) value.Post
-  value-returns-4 c = told-object (value-begun (c .before .before .before .before .before .before .before .before .before .before)) _ (c .before .before .before .before .before .before .before .before .enum-told2 .given .1) (c .before .before .before .before .before .before .before .if2 .left) (c .before .before .before .before .object .ensures)
+  value-same-length-4 c = c .before .before .before .before .object .kept .1 .0
 
   value-same-length-5 : value-lts.Need-same-length-5 (value-claims t) (value-at t) value.Post
-  value-same-length-5 c = c .before .before .leaf .kept .1 .0
+  value-same-length-5 c = c .before .before .before .before .object .kept .1 .1 .0
 
-  value-returns-5 : value-lts.Need-returns-5 (value-claims t) (value-at t) value.Post
-  value-returns-5 c = told-leaf _ (c .before .before .before .before .before .before .before .before .before .before .pre .1) (value-begun (c .before .before .before .before .before)) (c .before .before .before .before .match .keys3) (c .before .before .leaf .ensures)
+  value-returns-4 : value-lts.Need-returns-4 (value-claims t) (value-at t) value.Post
+  value-returns-4 c =
+      let m = c .before .before .before .before .before .before .before in
+      let b = m .before in
+      told-object (b .before .before .before .before .before .pre .1 .1) _ (value-brace m) (b .if1 .left) (c .before .before .before .before .object .ensures)
 
-pub +array+item+member+named-array+object+under+value-spec : {M : Type 1} → statement M
-+array+item+member+named-array+object+under+value-spec = close μ-array μ-item μ-member μ-named-array μ-object μ-under μ-value
+pub +array+item+member+object+value-spec : {M : Type 1} → statement M
++array+item+member+object+value-spec = close μ-array μ-item μ-member μ-object μ-value
     (λ t. array-lts.spec (array-claims t) (array-at t)
     array.Post
     array-Inv-loop
@@ -877,7 +683,9 @@ pub +array+item+member+named-array+object+under+value-spec : {M : Type 1} → st
     (array-returns-4 t))
     (λ t. item-lts.spec (item-claims t) (item-at t)
     item.Post
-    (item-whole-end-requires t)
+    (item-first-at-requires t)
+    (item-enum-told t)
+    (item-integer-end-requires t)
     (item-leaf-mark-requires t)
     (item-mul-marks t)
     (item-slice-write-marks t)
@@ -901,8 +709,8 @@ pub +array+item+member+named-array+object+under+value-spec : {M : Type 1} → st
     (member-returns t)
     (member-add-skip t)
     (member-skip-requires t)
-    (member-add-under t)
-    (member-under-requires t)
+    (member-add-item t)
+    (member-item-requires t)
     (member-enum-known-code-2 t)
     (member-enum-known-end t)
     (member-add-t38 t)
@@ -915,41 +723,6 @@ pub +array+item+member+named-array+object+under+value-spec : {M : Type 1} → st
     (member-same-length-7 t)
     (member-same-length-8 t)
     (member-returns-4 t))
-    (λ t. named-array-lts.spec (named-array-claims t) (named-array-at t)
-    named-array.Post
-    named-array-Inv-loop
-    named-array-μ-loop
-    (named-array-add-skip t)
-    (named-array-skip-requires t)
-    (named-array-peek-requires t)
-    (named-array-add-close t)
-    (named-array-close-requires t)
-    (named-array-same-length t)
-    (named-array-returns t)
-    (named-array-loop-holds t)
-    (named-array-add-item t)
-    (named-array-item-requires t)
-    (named-array-enum-known-code t)
-    (named-array-same-length-2 t)
-    (named-array-same-length-3 t)
-    (named-array-returns-2 t)
-    (named-array-enum-known-end t)
-    (named-array-add-rows t)
-    (named-array-add-children t)
-    (named-array-behind-requires t)
-    (named-array-enum-known-e t)
-    (named-array-close-requires-2 t)
-    (named-array-same-length-4 t)
-    (named-array-same-length-5 t)
-    (named-array-returns-3 t)
-    (named-array-enum-known-next t)
-    (named-array-loop-less t)
-    (named-array-loop-again t)
-    (named-array-enum-known-j t)
-    (named-array-refuse-requires t)
-    (named-array-same-length-6 t)
-    (named-array-same-length-7 t)
-    (named-array-returns-4 t))
     (λ t. object-lts.spec (object-claims t) (object-at t)
     object.Post
     object-Inv-loop
@@ -985,37 +758,20 @@ pub +array+item+member+named-array+object+under+value-spec : {M : Type 1} → st
     (object-same-length-6 t)
     (object-same-length-7 t)
     (object-returns-4 t))
-    (λ t. under-lts.spec (under-claims t) (under-at t)
-    under.Post
-    (under-peek-requires t)
-    (under-returns t)
-    (under-sub-named-array t)
-    (under-named-array-requires t)
-    (under-same-length t)
-    (under-same-length-2 t)
-    (under-returns-2 t)
-    (under-item-requires t)
-    (under-same-length-3 t)
-    (under-same-length-4 t)
-    (under-returns-3 t))
     λ t. value-lts.spec (value-claims t) (value-at t)
     value.Post
-    (value-peek-requires t)
-    (value-begins-requires t)
-    (value-enum-told t)
-    (value-returns t)
-    (value-sub-array t)
-    (value-array-requires t)
-    (value-enum-told-2 t)
-    (value-returns-2 t)
-    (value-sub-object t)
-    (value-object-requires t)
     (value-leaf-requires t)
     (value-same-length t)
+    (value-returns t)
+    (value-returns-2 t)
+    (value-enum-told t)
+    (value-sub-array t)
+    (value-array-requires t)
+    (value-sub-object t)
+    (value-object-requires t)
     (value-same-length-2 t)
-    (value-returns-3 t)
     (value-same-length-3 t)
+    (value-returns-3 t)
     (value-same-length-4 t)
-    (value-returns-4 t)
     (value-same-length-5 t)
-    (value-returns-5 t)
+    (value-returns-4 t)
