@@ -44,6 +44,9 @@ enum {
     TELEPORT_SCHEMA_DEPTH = 24
 };
 
+/* A call needs less than this much stack. */
+enum { TELEPORT_STACK_BYTES = 327680 };
+
 /* A table has one row of five words for each value and each member name, in order of their first bytes. */
 enum {
     TELEPORT_ROW_KIND = 0,
@@ -74,8 +77,9 @@ enum teleport_kind {
  *   them during the call. The two texts may overlap or be the same.
  *
  * Every call returns, whatever the bytes are. It allocates nothing, keeps no state, may run on several threads and
- * needs less than 320 KiB of stack. A text that is refused leaves its table as it was, and so is every word behind the
- * last row. A text has at most as many rows as bytes.
+ * needs less than TELEPORT_STACK_BYTES (320 KiB) of stack.
+ * A text that is refused leaves its table as it was, and so is every word behind the last row. A text has at most as
+ * many rows as bytes.
  *
  *     static const uint8_t text[] = "[1,]";
  *     uint32_t table[5 * 4], answer[4];

@@ -1,0 +1,214 @@
+/*
+ * Measures the stack of a call: a thread with a stack that is painted makes it, and where the paint ends shows how
+ * far it went. Each call must need less than TELEPORT_STACK_BYTES, and give the answer that is stated.
+ */
+#define _DEFAULT_SOURCE
+#include <pthread.h>
+#include <stdio.h>
+#include <stdlib.h>
+#include <string.h>
+#include <sys/mman.h>
+#include <teleport.h>
+
+enum { STACK = 4 << 20, PAINT = 0xa5, TABLE = TELEPORT_DOCUMENT_LIMIT * TELEPORT_ROW_WORDS };
+
+static unsigned long passed, failed;
+
+static void expect(int holds, const char *what, const char *name) {
+    if (holds) {
+        passed++;
+    } else {
+        failed++;
+        printf("failed: %s: %s\n", name, what);
+    }
+}
+
+static void stop_unless(int holds, const char *what) {
+    if (!holds) {
+        printf("failed: %s\n0 passed, 1 failed\n", what);
+        exit(1);
+    }
+}
+
+/* Texts. */
+
+struct text {
+    size_t length;
+    uint8_t bytes[TELEPORT_DOCUMENT_LIMIT];
+};
+
+static void put(struct text *text, const char *string) {
+    size_t length = strlen(string);
+    stop_unless(text->length + length <= sizeof text->bytes, "a text is too long");
+    memcpy(text->bytes + text->length, string, length);
+    text->length += length;
+}
+
+/* Space behind the text, up to a length. */
+static void pad(struct text *text, size_t length) {
+    while (text->length < length) put(text, " ");
+}
+
+static void repeat(struct text *text, const char *string, unsigned times) {
+    for (unsigned i = 0; i < times; i++) put(text, string);
+}
+
+/* How objects nest: what stands around the names of each, and under each name but the last. */
+struct nesting {
+    const char *open, *close, *leaf;
+};
+
+static const struct nesting objects = {"{", "}", "0"};
+static const struct nesting required = {"{\"Object\":{\"required\":{", "}}}", "\"JSON\""};
+static const struct nesting optional = {"{\"Object\":{\"optional\":{", "}}}", "\"JSON\""};
+
+/* So many names with a letter, the same value under each but the last, which is left open. */
+static void put_names(struct text *text, char letter, unsigned count, const char *value) {
+    for (unsigned i = 0; i < count; i++) {
+        char name[16];
+        snprintf(name, sizeof name, "\"%c%u\":", letter, i);
+        put(text, name);
+        if (i + 1 < count) put(text, value), put(text, ",");
+    }
+}
+
+/* Objects of so many names, each under the last name of the one around it; the last of all is left open. */
+static void open_nest(struct text *text, const struct nesting *how, unsigned levels, unsigned names) {
+    for (unsigned level = 0; level < levels; level++) {
+        put(text, how->open);
+        put_names(text, 'n', names, how->leaf);
+    }
+}
+
+static void nest(struct text *text, const struct nesting *how, unsigned levels, unsigned names, const char *inside) {
+    open_nest(text, how, levels, names);
+    put(text, inside);
+    repeat(text, how->close, levels);
+}
+
+/* Measuring. */
+
+typedef void service(const uint8_t *, size_t, const uint8_t *, size_t, uint32_t *, size_t, uint32_t *, size_t, uint32_t *);
+
+struct call {
+    service *call; /* Check or Compare; NULL is Read of the first text */
+    const struct text *texts[2];
+    uint32_t answer[4];
+    uintptr_t frame;
+};
+
+static uint32_t tables[2][TABLE];
+
+/* What the thread does. Its own frame is where the stack of the call begins. */
+static void *make_call(void *given) {
+    struct call *c = given;
+    volatile uint8_t here = 0;
+    c->frame = (uintptr_t)&here;
+    const struct text *one = c->texts[0], *two = c->texts[1];
+    if (c->call == NULL) {
+        teleport_read(one->bytes, one->length, tables[0], TABLE, c->answer);
+    } else {
+        c->call(one->bytes, one->length, two->bytes, two->length, tables[0], TABLE, tables[1], TABLE, c->answer);
+    }
+    return NULL;
+}
+
+/* The bytes of stack below the frame that makes the call. */
+static size_t stack_of(struct call *c) {
+    uint8_t *stack = mmap(NULL, STACK, PROT_READ | PROT_WRITE, MAP_PRIVATE | MAP_ANONYMOUS, -1, 0);
+    stop_unless(stack != MAP_FAILED, "no memory for a stack");
+    memset(stack, PAINT, STACK);
+    pthread_attr_t attributes;
+    pthread_t thread;
+    stop_unless(pthread_attr_init(&attributes) == 0 && pthread_attr_setstack(&attributes, stack, STACK) == 0
+        && pthread_create(&thread, &attributes, make_call, c) == 0 && pthread_join(thread, NULL) == 0, "no thread");
+    pthread_attr_destroy(&attributes);
+    size_t frame = c->frame - (uintptr_t)stack, lowest = 0;
+    stop_unless(frame < STACK, "the call was not made on the painted stack");
+    while (lowest < frame && stack[lowest] == PAINT) lowest++;
+    munmap(stack, STACK);
+    return frame - lowest;
+}
+
+static struct text first, second;
+
+/* More stack than this much a call is sure to need, by its texts; less shows that nothing was measured. */
+enum { SHORT = 256, LONG = 65536 };
+
+/* Makes a call with the two texts, and begins new ones. */
+static void measure(const char *name, service *call, uint32_t code, uint32_t other, size_t more_than) {
+    struct call c = {call, {&first, &second}, {0, 0, 0, 0}, 0};
+    size_t used = stack_of(&c);
+    printf("%s: %zu bytes of stack\n", name, used);
+    expect(c.answer[0] == code && c.answer[3] == other, "the code and other", name);
+    expect(used < TELEPORT_STACK_BYTES, "less stack than the header says", name);
+    expect(used > more_than, "as much stack as it must need at least", name);
+    first.length = second.length = 0;
+}
+
+/* The calls: working room goes by the length of a text, frames by its depth, and room for names by nested objects. */
+
+enum { LONG_SCHEMA = 16384, MANY = 40 };
+
+static void measure_read(void) {
+    put(&first, "[]");
+    measure("Read, 2 bytes", NULL, 0, 1, SHORT);
+    repeat(&first, "[", 32), repeat(&first, "]", 32);
+    measure("Read, 32 brackets", NULL, 0, 32, SHORT);
+    repeat(&first, "[{\"\\ud83d\\ude00\":", 16), put(&first, "\"\\ud83d\\ude00\""), repeat(&first, "}]", 16);
+    pad(&first, LONG);
+    measure("Read, 65,536 bytes, arrays and objects by turns, escapes", NULL, 0, 49, LONG);
+    nest(&first, &objects, 32, 150, "0"), pad(&first, LONG);
+    measure("Read, 65,536 bytes, 32 objects of 150 names", NULL, 0, 32 * 300 + 1, LONG);
+    nest(&first, &objects, 32, 150, "[0]"), pad(&first, LONG);
+    measure("Read, 65,536 bytes, a bracket too many", NULL, 7, 0, LONG);
+}
+
+static void measure_check(void) {
+    put(&first, "1"), put(&second, "\"Integer\"");
+    measure("Check, short texts", teleport_check, 0, 0, SHORT);
+    nest(&first, &objects, 8, MANY, "0"), nest(&second, &required, 8, MANY, "\"Integer\"");
+    measure("Check, 8 objects of 40 required names", teleport_check, 0, 0, SHORT);
+    nest(&first, &objects, 8, MANY, "0"), pad(&first, LONG);
+    nest(&second, &optional, 8, MANY, "\"Float\""), pad(&second, LONG_SCHEMA);
+    measure("Check, longest texts, 8 objects of 40 optional names", teleport_check, 0, 0, LONG);
+    repeat(&first, "[", 24), put(&first, "1"), repeat(&first, "]", 24);
+    repeat(&second, "{\"Array\":", 24), put(&second, "\"Float\""), repeat(&second, "}", 24);
+    measure("Check, 24 arrays", teleport_check, 0, 0, SHORT);
+}
+
+/* The definition is in the document, so that its depth is a document's. */
+static void measure_schema(void) {
+    nest(&first, &required, 10, MANY, "\"JSON\""), pad(&first, LONG), put(&second, "\"Schema\"");
+    measure("Check by Schema, 65,536 bytes, 10 definitions of 40 names", teleport_check, 0, 0, LONG);
+    repeat(&first, "{\"Map\":", 32), put(&first, "\"JSON\""), repeat(&first, "}", 32), put(&second, "\"Schema\"");
+    measure("Check by Schema, 32 maps", teleport_check, 0, 0, SHORT);
+    open_nest(&first, &objects, 8, MANY);
+    put(&first, required.open), put_names(&first, 'r', MANY, "\"JSON\"");
+    put(&first, "\"JSON\"},\"optional\":{"), put_names(&first, 'o', MANY, "\"JSON\"");
+    put(&first, "\"JSON\"}}}"), repeat(&first, objects.close, 8);
+    nest(&second, &required, 8, MANY, "\"Schema\"");
+    measure("Check by Schema inside 8 objects of 40 names", teleport_check, 0, 0, SHORT);
+}
+
+static void measure_compare(void) {
+    put(&first, "\"Integer\""), put(&second, "\"Float\"");
+    measure("Compare, short texts", teleport_compare, 0, 0, SHORT);
+    nest(&first, &required, 8, MANY, "\"Integer\""), nest(&second, &required, 8, MANY, "\"Float\"");
+    measure("Compare, 8 objects of 40 required names", teleport_compare, 0, 0, SHORT);
+    nest(&first, &optional, 8, MANY, "\"Float\""), pad(&first, LONG_SCHEMA);
+    nest(&second, &optional, 8, MANY, "\"Integer\""), pad(&second, LONG_SCHEMA);
+    measure("Compare, longest schemas, 8 objects of 40 optional names", teleport_compare, 30, 0, LONG);
+    repeat(&first, "{\"Array\":", 24), put(&first, "\"JSON\""), repeat(&first, "}", 24);
+    repeat(&second, "{\"Array\":", 24), put(&second, "\"JSON\""), repeat(&second, "}", 24);
+    measure("Compare, 24 arrays", teleport_compare, 0, 0, SHORT);
+}
+
+int main(void) {
+    measure_read();
+    measure_check();
+    measure_schema();
+    measure_compare();
+    printf("%lu passed, %lu failed\n", passed, failed);
+    return failed != 0;
+}
