@@ -4,7 +4,9 @@
     readme_test.py
 
 It needs target/bin/teleport and what `make` builds. The examples are compiled as they
-are written, against a copy that `make install` puts under a prefix of its own.
+are written, by the commands of the page, against a copy that its `make install` puts
+under a prefix of its own. The page's second command is the gate, which runs this test,
+and is not run here.
 """
 
 import os
@@ -17,11 +19,37 @@ import tempfile
 ROOT = pathlib.Path(__file__).resolve().parent.parent
 PREFIX = "/usr/local"
 
+# For each example its file, a line that it has, how the command that builds it begins, and what starts it.
+EXAMPLES = [
+    ("example.c", "#include <teleport.h>", "cc example.c ", "./a.out"),
+    ("example.rs", 'extern "C" {', "rustc example.rs ", "./example"),
+    ("example.py", "import ctypes", None, "python3 example.py"),
+]
+
+
+class Missing(Exception):
+    """Something that is looked for in the page and is not there."""
+
+
+def search(pattern, text):
+    found = re.search(pattern, text)
+    if not found:
+        raise Missing(pattern)
+    return found[1]
+
 
 def blocks(text):
     """The indented blocks of a page, without their indent, each with the sentence behind it."""
     found = re.finditer(r"(?:^|\n\n)((?:    .*\n|\n(?=    ))+)\n?(.*)", text)
     return [(re.sub(r"(?m)^    ", "", match[1]), match[2]) for match in found]
+
+
+def block_with(text, mark):
+    """The block that has a line, and the sentence behind it."""
+    for block, behind in blocks(text):
+        if mark in block.splitlines():
+            return block, behind
+    raise Missing(mark)
 
 
 def commands(text):
@@ -30,45 +58,71 @@ def commands(text):
     return re.findall(r"(?m)^\$ (.*)\n((?:(?!\$ )\S.*\n)*)", shown)
 
 
-def output(command, **options):
-    """What a command prints, whatever its status is: teleport's answers are lines."""
-    done = subprocess.run(command, cwd=ROOT, stdout=subprocess.PIPE, stderr=subprocess.STDOUT, text=True, **options)
-    return done.stdout
+def run(command, folder=ROOT, **options):
+    """What a command prints, and its status."""
+    done = subprocess.run(command, shell=True, cwd=folder, stdout=subprocess.PIPE, stderr=subprocess.STDOUT, text=True, **options)
+    return done.stdout, done.returncode
 
 
-def example(text, mark):
-    """The example that has a line, and what the page says that it prints."""
-    block, behind = next((block, behind) for block, behind in blocks(text) if mark in block)
-    return block, re.match(r"prints `(.*?)`", behind)[1] + "\n"
+# Each run: its name, what is found, and what the page says.
+
+def first_command_run(text, folder):
+    """The page's first command, in a folder that leads to the tree: the file that it makes stays there."""
+    for entry in ROOT.iterdir():
+        if entry.name != "a.json":
+            (folder / entry.name).symlink_to(entry)
+    block, behind = blocks(text)[0]
+    printed, status = run(block, folder)
+    return block.strip(), (printed.splitlines()[-1:], status), ([search(r"it prints `(.*?)`", behind)], 0)
 
 
-def example_runs(text, folder):
-    """For each example: its name, what it prints here, and what the page says."""
-    prefix = folder / "prefix"
-    output(["make", "-s", "install", f"PREFIX={prefix}"])
+def command_runs(text):
+    """The commands behind a `$`, whatever their status is: their answers are lines."""
+    found = commands(text)
+    yield "the commands that are found", len(found), len(re.findall(r"(?m)^    \$ ", text))
+    for command, says in found:
+        yield command, run(command)[0], says
+
+
+def install_run(text, prefix):
+    """The page's `make install`, which must succeed."""
+    command = search(r"(?m)^    (make install .*)$", text)
+    printed, status = run(command.replace(PREFIX, str(prefix)))
+    return command, (status, printed if status else ""), (0, "")
+
+
+def example_runs(text, folder, prefix):
     environment = dict(os.environ, PKG_CONFIG_PATH=str(prefix / "lib" / "pkgconfig"), LD_LIBRARY_PATH=str(prefix / "lib"))
-    program = folder / "example"
-    builds = {
-        "c": ("#include <teleport.h>", f"cc {folder}/example.c $(pkg-config --cflags --libs teleport) -o {program}"),
-        "rs": ('extern "C"', f"rustc {folder}/example.rs -L native={prefix}/lib -l static=teleport -o {program}"),
-        "py": ("import ctypes", f"cp {folder}/example.py {program} && sed -i '1i #!/usr/bin/env python3' {program} && chmod +x {program}"),
-    }
-    for ending, (mark, build) in builds.items():
-        source, says = example(text, mark)
-        (folder / f"example.{ending}").write_text(source.replace(PREFIX, str(prefix)))
-        printed = output(f"{build} && {program}", shell=True, env=environment)
-        yield f"the example in {ending}", printed, says
+    yield "the examples that are found", len(EXAMPLES), len(re.findall(r"(?m)^prints `", text))
+    for name, mark, begins, start in EXAMPLES:
+        source, behind = block_with(text, mark)
+        build = search("`(" + re.escape(begins) + "[^`]*)`", text) + " && " if begins else ""
+        (folder / name).write_text(source.replace(PREFIX, str(prefix)))
+        found = run((build + start).replace(PREFIX, str(prefix)), folder, env=environment)
+        yield "the example in " + name, found, (search(r"^prints `(.*?)`", behind) + "\n", 0)
+
+
+def runs(text, folder):
+    tree, examples, prefix = folder / "tree", folder / "examples", folder / "prefix"
+    tree.mkdir()
+    examples.mkdir()
+    try:
+        yield first_command_run(text, tree)
+        yield from command_runs(text)
+        yield install_run(text, prefix)
+        yield from example_runs(text, examples, prefix)
+    except Missing as missing:
+        yield f"README.md has {missing}", False, True
 
 
 def main():
     text = (ROOT / "README.md").read_text()
     with tempfile.TemporaryDirectory() as folder:
-        runs = [(command, output(command, shell=True), says) for command, says in commands(text)]
-        runs += example_runs(text, pathlib.Path(folder))
-    wrong = [run for run in runs if run[1] != run[2]]
-    for name, printed, says in wrong:
-        print(f"failed: {name}\nprints:\n{printed}README.md says:\n{says}")
-    print(f"{len(runs) - len(wrong)} passed, {len(wrong)} failed")
+        done = list(runs(text, pathlib.Path(folder)))
+    wrong = [run for run in done if run[1] != run[2]]
+    for name, found, says in wrong:
+        print(f"failed: {name}\nfound: {found}\nREADME.md says: {says}")
+    print(f"{len(done) - len(wrong)} passed, {len(wrong)} failed")
     return 1 if wrong else 0
 
 
