@@ -177,20 +177,34 @@ static void read_beginnings(const struct reading *reading) {
     for (size_t length = 0; length <= strlen(reading->text); length++) read_beginning(reading, length);
 }
 
-/* Read of a text and a table that fill whole pages, so that both ends of each touch a page that traps. */
-static void read_longest(void) {
-    static char text[LONGEST + 1];
-    static uint32_t rows[LONG_ROWS * TELEPORT_ROW_WORDS] = {7, 1, LONGEST, LONG_ROWS - 1, LONG_ROWS};
-    text[0] = ' ';
+/* Fills a text and its rows: space, and an array of ones. */
+static void make_longest(char *text, uint32_t *rows) {
+    const uint32_t array[] = {7, 1, LONGEST, LONG_ROWS - 1, LONG_ROWS};
+    memcpy(rows, array, sizeof array);
     for (uint32_t i = 1; i < LONG_ROWS; i++) {
+        const uint32_t one[] = {4, 2 * i, 2 * i + 1, 0, 1};
+        memcpy(rows + i * TELEPORT_ROW_WORDS, one, sizeof one);
         memcpy(text + 2 * i - 1, ",1", 2);
-        uint32_t *row = rows + i * TELEPORT_ROW_WORDS;
-        row[0] = 4, row[1] = 2 * i, row[2] = 2 * i + 1, row[4] = 1;
     }
-    text[1] = '[', text[LONGEST - 1] = ']';
-    const struct stretch says = {0, TELEPORT_OK, 0, rows, LONG_ROWS * TELEPORT_ROW_WORDS};
+    text[0] = ' ';
+    text[1] = '[';
+    text[LONGEST - 1] = ']';
+}
+
+/* Read of a text and a table that fill whole pages, so that both ends of each touch a page that traps; of a byte more. */
+static void read_longest(void) {
+    static char text[LONGEST + 2];
+    static uint32_t rows[LONG_ROWS * TELEPORT_ROW_WORDS];
+    const struct stretch says = {0, TELEPORT_OK, 0, rows, sizeof rows / sizeof *rows}, too_long = REFUSED(0, TELEPORT_TOO_LONG, LONGEST);
+    make_longest(text, rows);
+    text_areas[0] = map_area(LONGEST);
+    table_areas[0] = map_area(sizeof rows);
     read_with(text, LONGEST, &says, says.words, AT_START);
     read_with(text, LONGEST, &says, says.words - 1, AT_END);
+    text[LONGEST] = ' ';
+    text_areas[0] = map_area(LONGEST + 1);
+    read_with(text, LONGEST + 1, &too_long, says.words, AT_START);
+    read_with(text, LONGEST + 1, &too_long, says.words, AT_END);
 }
 
 /* Check and Compare. */
@@ -269,7 +283,8 @@ static struct outcome outcome_of(const struct pair *pair, const size_t words[2])
         int i = turn == 0 ? first : 1 - first;
         const struct text *text = pair->texts[i];
         if (lacks_room(text->words, words[i])) {
-            out.answer[0] = TELEPORT_NO_ROOM, out.answer[1] = (uint32_t)i + 1;
+            out.answer[0] = TELEPORT_NO_ROOM;
+            out.answer[1] = (uint32_t)i + 1;
             out.answer[3] = (uint32_t)(text->words / TELEPORT_ROW_WORDS);
             return out;
         }
@@ -316,12 +331,13 @@ static void call_pair(const struct pair *pair) {
 
 int main(void) {
     setvbuf(stdout, NULL, _IOLBF, BUFSIZ); /* what failed is seen before a trap ends the program */
-    for (int i = 0; i < 2; i++) text_areas[i] = map_area(ROOM), table_areas[i] = map_area(ROOM * sizeof(uint32_t));
+    for (int i = 0; i < 2; i++) {
+        text_areas[i] = map_area(ROOM);
+        table_areas[i] = map_area(ROOM * sizeof(uint32_t));
+    }
     answer_area = map_area(4 * sizeof(uint32_t));
     for (size_t i = 0; i < sizeof readings / sizeof *readings; i++) read_beginnings(&readings[i]);
     for (size_t i = 0; i < sizeof pairs / sizeof *pairs; i++) call_pair(&pairs[i]);
-    text_areas[0] = map_area(LONGEST);
-    table_areas[0] = map_area(LONG_ROWS * TELEPORT_ROW_WORDS * sizeof(uint32_t));
     read_longest();
     printf("%lu passed, %lu failed\n", passed, failed);
     return failed != 0;

@@ -71,10 +71,10 @@ class Folder:
                 time.sleep(0.01)
         return (*running.communicate(timeout=60), running.returncode)
 
-    def result(self, case, pieces=(), user={}):
+    def result(self, case, pieces=(), user=None):
         """A case's description and whether it holds: the line, nothing on the other output, status 0."""
         arguments, line = case
-        found = self.run(arguments, pieces, user)
+        found = self.run(arguments, pieces, user or {})
         shown = " ".join(os.fsdecode(argument)[:60] for argument in arguments)
         return "teleport %s: wanted %r, found %r" % (shown, line, found), found == (line.encode() + b"\n", b"", 0)
 

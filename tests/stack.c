@@ -53,6 +53,13 @@ static void repeat(struct text *text, const char *string, unsigned times) {
     for (unsigned i = 0; i < times; i++) put(text, string);
 }
 
+/* A text inside so many brackets, or what else opens and closes. */
+static void wrap(struct text *text, const char *open, const char *inside, const char *close, unsigned times) {
+    repeat(text, open, times);
+    put(text, inside);
+    repeat(text, close, times);
+}
+
 /* How objects nest: what stands around the names of each, and under each name but the last. */
 struct nesting {
     const char *open, *close, *leaf;
@@ -68,7 +75,9 @@ static void put_names(struct text *text, char letter, unsigned count, const char
         char name[16];
         snprintf(name, sizeof name, "\"%c%u\":", letter, i);
         put(text, name);
-        if (i + 1 < count) put(text, value), put(text, ",");
+        if (i + 1 == count) break;
+        put(text, value);
+        put(text, ",");
     }
 }
 
@@ -80,6 +89,7 @@ static void open_nest(struct text *text, const struct nesting *how, unsigned lev
     }
 }
 
+/* The same, with this inside the last. */
 static void nest(struct text *text, const struct nesting *how, unsigned levels, unsigned names, const char *inside) {
     open_nest(text, how, levels, names);
     put(text, inside);
@@ -153,54 +163,75 @@ enum { LONG_SCHEMA = 16384, MANY = 40 };
 static void measure_read(void) {
     put(&first, "[]");
     measure("Read, 2 bytes", NULL, 0, 1, SHORT);
-    repeat(&first, "[", 32), repeat(&first, "]", 32);
+    wrap(&first, "[", "", "]", 32);
     measure("Read, 32 brackets", NULL, 0, 32, SHORT);
-    repeat(&first, "[{\"\\ud83d\\ude00\":", 16), put(&first, "\"\\ud83d\\ude00\""), repeat(&first, "}]", 16);
+    wrap(&first, "[{\"\\ud83d\\ude00\":", "\"\\ud83d\\ude00\"", "}]", 16);
     pad(&first, LONG);
     measure("Read, 65,536 bytes, arrays and objects by turns, escapes", NULL, 0, 49, LONG);
-    nest(&first, &objects, 32, 150, "0"), pad(&first, LONG);
+    nest(&first, &objects, 32, 150, "0");
+    pad(&first, LONG);
     measure("Read, 65,536 bytes, 32 objects of 150 names", NULL, 0, 32 * 300 + 1, LONG);
-    nest(&first, &objects, 32, 150, "[0]"), pad(&first, LONG);
+    nest(&first, &objects, 32, 150, "[0]");
+    pad(&first, LONG);
     measure("Read, 65,536 bytes, a bracket too many", NULL, 7, 0, LONG);
 }
 
 static void measure_check(void) {
-    put(&first, "1"), put(&second, "\"Integer\"");
+    put(&first, "1");
+    put(&second, "\"Integer\"");
     measure("Check, short texts", teleport_check, 0, 0, SHORT);
-    nest(&first, &objects, 8, MANY, "0"), nest(&second, &required, 8, MANY, "\"Integer\"");
+    nest(&first, &objects, 8, MANY, "0");
+    nest(&second, &required, 8, MANY, "\"Integer\"");
     measure("Check, 8 objects of 40 required names", teleport_check, 0, 0, SHORT);
-    nest(&first, &objects, 8, MANY, "0"), pad(&first, LONG);
-    nest(&second, &optional, 8, MANY, "\"Float\""), pad(&second, LONG_SCHEMA);
+    nest(&first, &objects, 8, MANY, "0");
+    pad(&first, LONG);
+    nest(&second, &optional, 8, MANY, "\"Float\"");
+    pad(&second, LONG_SCHEMA);
     measure("Check, longest texts, 8 objects of 40 optional names", teleport_check, 0, 0, LONG);
-    repeat(&first, "[", 24), put(&first, "1"), repeat(&first, "]", 24);
-    repeat(&second, "{\"Array\":", 24), put(&second, "\"Float\""), repeat(&second, "}", 24);
+    wrap(&first, "[", "1", "]", 24);
+    wrap(&second, "{\"Array\":", "\"Float\"", "}", 24);
     measure("Check, 24 arrays", teleport_check, 0, 0, SHORT);
+}
+
+/* A definition with many names in both parts. */
+static void put_definition(struct text *text) {
+    put(text, "{\"Object\":{\"required\":{");
+    put_names(text, 'r', MANY, "\"JSON\"");
+    put(text, "\"JSON\"},\"optional\":{");
+    put_names(text, 'o', MANY, "\"JSON\"");
+    put(text, "\"JSON\"}}}");
 }
 
 /* The definition is in the document, so that its depth is a document's. */
 static void measure_schema(void) {
-    nest(&first, &required, 10, MANY, "\"JSON\""), pad(&first, LONG), put(&second, "\"Schema\"");
+    nest(&first, &required, 10, MANY, "\"JSON\"");
+    pad(&first, LONG);
+    put(&second, "\"Schema\"");
     measure("Check by Schema, 65,536 bytes, 10 definitions of 40 names", teleport_check, 0, 0, LONG);
-    repeat(&first, "{\"Map\":", 32), put(&first, "\"JSON\""), repeat(&first, "}", 32), put(&second, "\"Schema\"");
+    wrap(&first, "{\"Map\":", "\"JSON\"", "}", 32);
+    put(&second, "\"Schema\"");
     measure("Check by Schema, 32 maps", teleport_check, 0, 0, SHORT);
     open_nest(&first, &objects, 8, MANY);
-    put(&first, required.open), put_names(&first, 'r', MANY, "\"JSON\"");
-    put(&first, "\"JSON\"},\"optional\":{"), put_names(&first, 'o', MANY, "\"JSON\"");
-    put(&first, "\"JSON\"}}}"), repeat(&first, objects.close, 8);
+    put_definition(&first);
+    repeat(&first, objects.close, 8);
     nest(&second, &required, 8, MANY, "\"Schema\"");
     measure("Check by Schema inside 8 objects of 40 names", teleport_check, 0, 0, SHORT);
 }
 
 static void measure_compare(void) {
-    put(&first, "\"Integer\""), put(&second, "\"Float\"");
+    put(&first, "\"Integer\"");
+    put(&second, "\"Float\"");
     measure("Compare, short texts", teleport_compare, 0, 0, SHORT);
-    nest(&first, &required, 8, MANY, "\"Integer\""), nest(&second, &required, 8, MANY, "\"Float\"");
+    nest(&first, &required, 8, MANY, "\"Integer\"");
+    nest(&second, &required, 8, MANY, "\"Float\"");
     measure("Compare, 8 objects of 40 required names", teleport_compare, 0, 0, SHORT);
-    nest(&first, &optional, 8, MANY, "\"Float\""), pad(&first, LONG_SCHEMA);
-    nest(&second, &optional, 8, MANY, "\"Integer\""), pad(&second, LONG_SCHEMA);
+    nest(&first, &optional, 8, MANY, "\"Float\"");
+    pad(&first, LONG_SCHEMA);
+    nest(&second, &optional, 8, MANY, "\"Integer\"");
+    pad(&second, LONG_SCHEMA);
     measure("Compare, longest schemas, 8 objects of 40 optional names", teleport_compare, 30, 0, LONG);
-    repeat(&first, "{\"Array\":", 24), put(&first, "\"JSON\""), repeat(&first, "}", 24);
-    repeat(&second, "{\"Array\":", 24), put(&second, "\"JSON\""), repeat(&second, "}", 24);
+    wrap(&first, "{\"Array\":", "\"JSON\"", "}", 24);
+    wrap(&second, "{\"Array\":", "\"JSON\"", "}", 24);
     measure("Compare, 24 arrays", teleport_compare, 0, 0, SHORT);
 }
 
