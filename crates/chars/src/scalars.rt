@@ -10,7 +10,7 @@ ghost use mathlib.Core.Path.{_≡_};
 ghost use Rattle.chars.specs.Tokens.{tokenOf, kindNumber, Kind};
 ghost use Rattle.chars.specs.Bytes.{byteAt};
 ghost use Rattle.chars.specs.Scalars.{firstOf, wordAt, quoted, scalarBy};
-ghost use Rattle.chars.specs.Integers.{integerEnd};
+ghost use Rattle.chars.specs.Integers.{minusEnd, integerEnd};
 ghost use Rattle.chars.specs.Strings.{stringAt};
 ghost use Prim.Native.Nat.{_<_, _+_};
 ghost use lib.ListN.{length};
@@ -27,20 +27,22 @@ pub enum First {
     Other,
 }
 
-// The first byte of a value decides what is read.
+// The first byte of a value decides what is read. The compiler tests single bytes before ranges, so the digits, which are most, stand first.
 fn begins(b: u8) -> First
     ensures { λ r. ⌜ r ≡ firstOf b ⌝ }
 {
     match b {
-        b'"' => First::Quote,
-        b'[' => First::Array,
-        b'{' => First::Object,
-        b'-' => First::Number,
         b'0'..=b'9' => First::Number,
-        b'n' => First::LetterN,
-        b'f' => First::LetterF,
-        b't' => First::LetterT,
-        _ => First::Other,
+        _ => match b {
+            b'"' => First::Quote,
+            b'[' => First::Array,
+            b'{' => First::Object,
+            b'-' => First::Number,
+            b'n' => First::LetterN,
+            b'f' => First::LetterF,
+            b't' => First::LetterT,
+            _ => First::Other,
+        },
     }
 }
 
@@ -96,13 +98,24 @@ pub fn scalar(first: First, text: &[u8], at: usize) -> Token
     }
 }
 
-// The place behind the number at a place that has digits alone and begins with no 0; the place itself where none stands there.
+// The place behind a minus, where one stands.
+fn minus(text: &[u8], at: usize) -> usize
+    ensures { λ r. ⌜ r ≡ minusEnd (now (text .entry)) at ⌝ }
+{
+    if peek(text, at) == b'-' {
+        return at + 1;
+    }
+    at
+}
+
+// The place behind the number at a place that has digits alone, perhaps behind a minus, and begins with no 0; the place itself where none stands there.
 pub fn integer_end(text: &[u8], at: usize) -> usize
     ensures { λ r. ⌜ r ≡ integerEnd (now (text .entry)) at ⌝ }
 {
-    match peek(text, at) {
+    let from = minus(text, at);
+    match peek(text, from) {
         b'1'..=b'9' => {
-            let end = digits(text, at + 1);
+            let end = digits(text, from + 1);
             match peek(text, end) {
                 b'.' => at,
                 b'E' => at,

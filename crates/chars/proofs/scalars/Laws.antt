@@ -22,7 +22,7 @@ use Rattle.chars.specs.Tokens.{Kind, Null, False, True, Whole}
 use Rattle.chars.specs.Numbers.{digitsEnd, wholeEnd, exponentAt, fractionAt, unsignedAt, numberAt}
 use Rattle.chars.specs.Scalars.{firstOf, wordAt, quoted, scalarBy, scalarAt}
 use Rattle.chars.specs.Spelling.{Spells, IsQuoted}
-use Rattle.chars.specs.Integers.{goesOn, integerEnd}
+use Rattle.chars.specs.Integers.{minusEnd, goesOn, digitsFrom, integerEnd}
 use Rattle.chars.proofs.bytes.Laws.{both, and-ways, in-text}
 use Rattle.chars.proofs.characters.Laws.{Scalar}
 use Rattle.chars.proofs.space.Laws.{run-next, run-from, run-end}
@@ -183,66 +183,75 @@ scalars-text (v ∷ t) h = rw (scalar-test v (h .0)) (scalars-text t (h .1))
 pub characters-text : (s : List ℕ) → isText (characters s) ≡ true
 characters-text s = scalars-text (characters s) (scalars s 0)
 
--- ---- a number of digits alone that begins with no 0
+-- ---- a number of digits alone that begins with no 0, perhaps behind a minus
 
-module _ (s : List ℕ) (i : ℕ) (l : 0x31 ≤ byteAt s i) (m : byteAt s i ≤ 0x39) where
+digit-test : (b : ℕ) → 0x31 ≤ b → b ≤ 0x39 → isDigit b ≡ true
+digit-test b l m = rw (le-leb 0x30 b (omega arith), le-leb b 0x39 m)
+
+number-digit : (b : ℕ) → 0x31 ≤ b → b ≤ 0x39 → firstOf b ≡ Number
+unfolding firstOf
+number-digit b l m = rw (ne-eqb b 0x22 (λ q. omega arith), ne-eqb b 0x5B (λ q. omega arith), ne-eqb b 0x7B (λ q. omega arith), digit-test b l m)
+
+number-minus : (b : ℕ) → b ≡ 0x2D → firstOf b ≡ Number
+unfolding firstOf
+number-minus b e = rw e
+
+module _ (s : List ℕ) (i f : ℕ) where
   abbrev ending : ℕ
-  ending = digitsEnd s (i + 1)
+  ending = digitsEnd s (f + 1)
 
-  is-digit : isDigit (byteAt s i) ≡ true
-  is-digit = rw (le-leb 0x30 (byteAt s i) (omega arith), le-leb (byteAt s i) 0x39 m)
+  -- none begin at f
+  pub digits-below : byteAt s f < 0x31 → digitsFrom s i f ≡ i
+  unfolding digitsFrom
+  digits-below l = rw (lt-leb 0x31 (byteAt s f) l)
 
-  number-begins : firstOf (byteAt s i) ≡ Number
-  unfolding firstOf
-  number-begins =
-      rw (ne-eqb (byteAt s i) 0x22 (λ q. omega arith), ne-eqb (byteAt s i) 0x5B (λ q. omega arith), ne-eqb (byteAt s i) 0x7B (λ q. omega arith), is-digit)
+  pub digits-above : 0x31 ≤ byteAt s f → 0x39 < byteAt s f → digitsFrom s i f ≡ i
+  unfolding digitsFrom
+  digits-above l m = rw (le-leb 0x31 (byteAt s f) l, lt-leb (byteAt s f) 0x39 m)
 
-  -- the digits behind the first end where all of them do
-  all-digits : digitsEnd s i ≡ ending
-  all-digits = run-next isDigit s i (in-text s i (omega arith)) is-digit
+  module _ (l : 0x31 ≤ byteAt s f) (m : byteAt s f ≤ 0x39) where
+    -- x is the byte behind them
+    pub digits-by : {x : ℕ} → x ≡ byteAt s ending → digitsFrom s i f ≡ cond (goesOn x) i ending
+    unfolding digitsFrom
+    digits-by q = rw (le-leb 0x31 (byteAt s f) l, le-leb (byteAt s f) 0x39 m, q)
 
-  begins-on : i < ending
-  begins-on = omega (arith, run-from isDigit s (i + 1))
+    -- the digits behind the first end where all of them do
+    all-digits : digitsEnd s f ≡ ending
+    all-digits = run-next isDigit s f (in-text s f (omega arith)) (digit-test (byteAt s f) l m)
 
-  digits-read : goesOn (byteAt s ending) ≡ false → (firstOf (byteAt s i) ≡ Number) × (scalarAt s i ≡ parsed Whole ending)
-  unfolding goesOn numberAt unsignedAt wholeEnd fractionAt exponentAt
-  digits-read g =
-      let x = or-false (eqb (byteAt s ending) 0x2E) (eqb (byteAt s ending) 0x45 || eqb (byteAt s ending) 0x65) g in (
-        number-begins,
-        rw (
-          number-begins,
-          ne-eqb (byteAt s i) 0x2D (λ q. omega arith),
-          ne-eqb (byteAt s i) 0x30 (λ q. omega arith),
-          all-digits,
-          ne-eqb ending i (λ q. omega (arith, begins-on)),
-          x .0,
-          x .1,
-        ),
-      )
+    begins-on : f < ending
+    begins-on = omega (arith, run-from isDigit s (f + 1))
 
-  -- x is the byte behind the digits
-  pub integer-by : {x : ℕ} → x ≡ byteAt s ending → integerEnd s i ≡ cond (goesOn x) i ending
-  unfolding integerEnd
-  integer-by q = rw (le-leb 0x31 (byteAt s i) l, le-leb (byteAt s i) 0x39 m, q)
+    digits-read : goesOn (byteAt s ending) ≡ false → unsignedAt s f ≡ parsed Whole ending
+    unfolding goesOn unsignedAt wholeEnd fractionAt exponentAt
+    digits-read g =
+        let x = or-false (eqb (byteAt s ending) 0x2E) (eqb (byteAt s ending) 0x45 || eqb (byteAt s ending) 0x65) g in
+        rw (ne-eqb (byteAt s f) 0x30 (λ q. omega arith), all-digits, ne-eqb ending f (λ q. omega (arith, begins-on)), x .0, x .1)
 
--- where none stands
+  -- where they begin, they are read so
+  from-read : i < digitsFrom s i f → (unsignedAt s f ≡ parsed Whole (digitsFrom s i f)) × (0x31 ≤ byteAt s f) × (byteAt s f ≤ 0x39)
+  unfolding digitsFrom
+  from-read =
+      let b = byteAt s f in
+      let P : ℕ → Type 0 = λ r. i < r → (unsignedAt s f ≡ parsed Whole r) × (0x31 ≤ b) × (b ≤ 0x39) in
+      both P (leb 0x31 b && leb b 0x39)
+      (λ t. both P (goesOn (byteAt s ending)) (λ _ l. absurd (omega arith))
+      (λ g _. and-ways (leb 0x31 b) (leb b 0x39) t (λ l m. let x = leb-true 0x31 b l in let y = leb-true b 0x39 m in (digits-read x y g, x, y))))
+      (λ _ l. absurd (omega arith))
+
+-- where a number of digits stands, it is read so
 module _ (s : List ℕ) (i : ℕ) where
-  pub integer-below : byteAt s i < 0x31 → integerEnd s i ≡ i
-  unfolding integerEnd
-  integer-below l = rw (lt-leb 0x31 (byteAt s i) l)
+  abbrev IntegerRead : ℕ → Type 0
+  IntegerRead f = i < digitsFrom s i f → (firstOf (byteAt s i) ≡ Number) × (scalarAt s i ≡ parsed Whole (digitsFrom s i f))
 
-  pub integer-above : 0x31 ≤ byteAt s i → 0x39 < byteAt s i → integerEnd s i ≡ i
-  unfolding integerEnd
-  integer-above l m = rw (le-leb 0x31 (byteAt s i) l, lt-leb (byteAt s i) 0x39 m)
+  behind-minus : eqb (byteAt s i) 0x2D ≡ true → IntegerRead (i + 1)
+  unfolding numberAt
+  behind-minus t l = let n = number-minus (byteAt s i) (eqb-true (byteAt s i) 0x2D t) in (n, rw (n, t) (from-read s i (i + 1) l .0))
 
--- where one stands, it is read so
-pub integer-read : (s : List ℕ) (i : ℕ) → i < integerEnd s i → (firstOf (byteAt s i) ≡ Number) × (scalarAt s i ≡ parsed Whole (integerEnd s i))
-unfolding integerEnd
-integer-read s i =
-    let b = byteAt s i in
-    let e = digitsEnd s (i + 1) in
-    let P : ℕ → Type 0 = λ r. i < r → (firstOf b ≡ Number) × (scalarAt s i ≡ parsed Whole r) in
-    both P (leb 0x31 b && leb b 0x39)
-    (λ t. both P (goesOn (byteAt s e)) (λ _ l. absurd (omega arith))
-    (λ g _. and-ways (leb 0x31 b) (leb b 0x39) t (λ l m. digits-read s i (leb-true 0x31 b l) (leb-true b 0x39 m) g)))
-    (λ _ l. absurd (omega arith))
+  no-minus : eqb (byteAt s i) 0x2D ≡ false → IntegerRead i
+  unfolding numberAt
+  no-minus t l = let h = from-read s i i l in let n = number-digit (byteAt s i) (h .1) (h .2) in (n, rw (n, t) (h .0))
+
+  pub integer-read : IntegerRead (minusEnd s i)
+  unfolding minusEnd
+  integer-read = both IntegerRead (eqb (byteAt s i) 0x2D) behind-minus no-minus
