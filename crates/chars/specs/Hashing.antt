@@ -11,7 +11,7 @@ use Rattle.chars.specs.Strings.{stringAt, characters, part}
 abbrev pub mix : ℕ → ℕ → ℕ
 mix h c = (h * 257 + c) % 4294967296
 
--- 16 bits that all the others reach
+-- 16 bits from the middle of a product, so that the low bits count in them too
 abbrev pub finish : ℕ → ℕ
 finish h = h * 2654435769 / 65536 % 65536
 

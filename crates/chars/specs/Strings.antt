@@ -22,7 +22,7 @@ stringFrom (suc k) s i = goOn (λ j. stringFrom k s j) i (charAt s i)
 unfoldable pub stringAt : List ℕ → ℕ → Scan
 stringAt s i = stringFrom (length s - i) s i
 
--- the scalar values up to a quote or the end
+-- the scalar values up to a quote, an offence or the end
 abbrev pub spell : (ℕ → List ℕ) → Step → List ℕ
 spell more (Char v j) = v ∷ more j
 spell more Quote = []

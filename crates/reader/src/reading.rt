@@ -11,7 +11,7 @@ ghost use mathlib.Core.Path.{_≡_};
 ghost use Prim.Native.Nat.{min, _≤_};
 ghost use lib.ListN.{length};
 ghost use Rattle.reader.specs.Grammar.{wholeAt};
-ghost use Rattle.reader.specs.Answer.{documentLimits, readWithin, answer, answerOf, tableOf};
+ghost use Rattle.reader.specs.Answer.{documentLimits, readWithin, answerOf, tableOf};
 ghost use Rattle.reader.specs.Passes.{scanOf, Ready};
 
 // Both passes over a whole text, in the working room given.

@@ -50,7 +50,7 @@ genericIn (object-at p r o) = Object
 pub record GenericRow (s t : List ℕ) (r : ℕ) (g : Generic) : Type 0 where
   pub tells : (d : DefinedRow s t r) → g ≡ genericIn (d .definition)
 
--- every value meets it
+-- JSON is carried to it
 pub record IsJsonRow (s t : List ℕ) (r : ℕ) (b : Bool) : Type 0 where
   pub tells : (d : DefinedRow s t r) → b ≡ subtype (named JSON) (plain (d .definition))
 

@@ -25,28 +25,28 @@ pub enum Generic {
     Other,
 }
 
-// The type that a string names, as the bytes between its quotes. Schema, the rarest, comes last: it begins as String does.
+// The type that a string names, as the bytes between its quotes; the commonest first.
 pub fn named_type(name: &[u8]) -> TypeName
     ensures { λ r. ⌜ r ≡ typeName (namedBy (characters (now (name .entry)))) ⌝ }
 {
     let name = &name[..];
-    if same_name(name, b"JSON") {
-        return TypeName::Json;
-    }
-    if same_name(name, b"Float") {
-        return TypeName::Float;
+    if same_name(name, b"String") {
+        return TypeName::Text;
     }
     if same_name(name, b"Integer") {
         return TypeName::Integer;
     }
-    if same_name(name, b"String") {
-        return TypeName::Text;
+    if same_name(name, b"DateTime") {
+        return TypeName::DateTime;
     }
     if same_name(name, b"Boolean") {
         return TypeName::Boolean;
     }
-    if same_name(name, b"DateTime") {
-        return TypeName::DateTime;
+    if same_name(name, b"Float") {
+        return TypeName::Float;
+    }
+    if same_name(name, b"JSON") {
+        return TypeName::Json;
     }
     if same_name(name, b"Schema") {
         return TypeName::Schema;

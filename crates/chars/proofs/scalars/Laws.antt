@@ -22,7 +22,7 @@ use Rattle.chars.specs.Tokens.{Kind, Null, False, True, Whole}
 use Rattle.chars.specs.Numbers.{digitsEnd, wholeEnd, exponentAt, fractionAt, unsignedAt, numberAt}
 use Rattle.chars.specs.Scalars.{firstOf, wordAt, quoted, scalarBy, scalarAt}
 use Rattle.chars.specs.Spelling.{Spells, IsQuoted}
-use Rattle.chars.specs.Integers.{minusEnd, goesOn, digitsFrom, integerEnd}
+use Rattle.chars.specs.Integers.{minusEnd, goesOn, digitsFrom}
 use Rattle.chars.proofs.bytes.Laws.{both, and-ways, in-text}
 use Rattle.chars.proofs.characters.Laws.{Scalar}
 use Rattle.chars.proofs.space.Laws.{run-next, run-from, run-end}
@@ -56,9 +56,6 @@ first-is b =
     (λ _. both (FirstIs b) (eqb b 0x74) (eqb-true b 0x74) (λ _. tt)))))))
 
 module _ (b : ℕ) where
-  pub first-quote : firstOf b ≡ Quote → b ≡ 0x22
-  first-quote e = rw e at (first-is b)
-
   pub first-array : firstOf b ≡ Array → b ≡ 0x5B
   first-array e = rw e at (first-is b)
 

@@ -1,8 +1,8 @@
--- A word, byte by byte from its kth on; the first byte of a value, by the tag of what it begins.
+-- A word, byte by byte from its kth on; what a value begins with, by its tag.
 use mathlib.Core.Path.{_≡_, refl}
 use mathlib.Core.List.{List}
 use mathlib.Core.Logic.{_⊎_, inl, inr}
-use Prim.Native.Nat.{ℕ, zero, suc, _+_, _≤_, _<_}
+use Prim.Native.Nat.{ℕ, _+_, _≤_, _<_}
 use native.Mathlib.Numerals.{add-one}
 use native.Mathlib.Omega.{arith}
 use denote.Enum.Declared.{tagOf}
@@ -13,11 +13,10 @@ use borrow.Author.Tests.{eq-eqb, ne-eqb}
 use Rattle.chars.specs.Bytes.{byteAt}
 use Rattle.chars.specs.Parse.{parsed, unexpected}
 use Rattle.chars.specs.Tokens.{Kind}
-use Rattle.chars.specs.Scalars.{firstOf, wordAt, scalarBy}
+use Rattle.chars.specs.Scalars.{wordAt, scalarBy}
 use Rattle.chars.specs.declared.scalars.First.{First}
 use Rattle.chars.specs.declared.scalars.First.the-variants.{Array, Object, Quote, Number, LetterN, LetterF, LetterT, Other}
 use Rattle.chars.proofs.scalars.First.{the-type}
-use Rattle.chars.proofs.bytes.Laws.{in-text}
 
 module _ (t : Kind) (w s : List ℕ) (i k : ℕ) where
   pub word-next : k < length w → byteAt s i ≡ getD w k 0 → wordAt t (drop k w) s i ≡ wordAt t (drop (k + 1) w) s (i + 1)
@@ -31,15 +30,6 @@ module _ (t : Kind) (w s : List ℕ) (i k : ℕ) where
   pub word-end : length w ≤ k → wordAt t (drop k w) s i ≡ parsed t i
   unfolding wordAt
   word-end h = rw (drop-of-length-le w h)
-
--- what is not `Other` is begun by a byte that is not 0
-first-byte : (b : ℕ) → tagOf the-type (firstOf b) < 7 → 0 < b
-unfolding firstOf
-first-byte zero h = omega arith
-first-byte (suc b) h = omega arith
-
-pub first-in : (s : List ℕ) (i : ℕ) (f : First) → f ≡ firstOf (byteAt s i) → tagOf the-type f < 7 → i < length s
-first-in s i f e h = in-text s i (first-byte (byteAt s i) (rw e at h))
 
 -- a tag that is none of the three
 none : (t : ℕ) → (t ≡ 0) ⊎ ((t ≡ 1) ⊎ (t ≡ 7)) → 1 < t → t < 7 → ⊥

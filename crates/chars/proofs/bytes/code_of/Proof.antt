@@ -3,8 +3,6 @@ use Rattle.chars.proofs.Span.{agree}
 use Rattle.chars.specs.Bytes.{codeOf}
 use Rattle.chars.proofs.bytes.code_of.Statement.{statement}
 use Rattle.chars.proofs.bytes.code_of.Tie as tie
-use Rattle.chars.proofs.bytes.code_of.Reads as reads
-use Rattle.chars.proofs.bytes.code_of.Lts as lts
 
 returns : tie.Need-returns
 unfolding codeOf

@@ -5,8 +5,6 @@ use Rattle.chars.specs.Bytes.{digit}
 use borrow.Author.Needs.{needs}
 use Rattle.chars.proofs.bytes.digit.Statement.{statement}
 use Rattle.chars.proofs.bytes.digit.Tie as tie
-use Rattle.chars.proofs.bytes.digit.Reads as reads
-use Rattle.chars.proofs.bytes.digit.Lts as lts
 
 sub-result : tie.Need-sub-result
 sub-result c = search needs

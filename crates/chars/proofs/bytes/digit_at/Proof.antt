@@ -1,10 +1,6 @@
 use borrow.Author.Needs.{needs}
 use Rattle.chars.proofs.bytes.digit_at.Statement.{statement}
 use Rattle.chars.proofs.bytes.digit_at.Tie as tie
-use Rattle.chars.proofs.bytes.digit_at.Reads as reads
-use Rattle.chars.proofs.bytes.digit_at.Lts as lts
-use Rattle.chars.proofs.bytes.digit.Reads as digit-reads
-use Rattle.chars.proofs.bytes.peek.Reads as peek-reads
 
 peek-requires : tie.Need-peek-requires
 peek-requires c κs = search needs

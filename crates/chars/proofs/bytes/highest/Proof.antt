@@ -3,8 +3,6 @@ use borrow.Author.Tests.{ne-eqb}
 use Rattle.chars.specs.Bytes.{highest}
 use Rattle.chars.proofs.bytes.highest.Statement.{statement}
 use Rattle.chars.proofs.bytes.highest.Tie as tie
-use Rattle.chars.proofs.bytes.highest.Reads as reads
-use Rattle.chars.proofs.bytes.highest.Lts as lts
 
 returns : tie.Need-returns
 unfolding highest

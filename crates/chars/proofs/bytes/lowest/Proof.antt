@@ -3,8 +3,6 @@ use borrow.Author.Tests.{ne-eqb}
 use Rattle.chars.specs.Bytes.{lowest}
 use Rattle.chars.proofs.bytes.lowest.Statement.{statement}
 use Rattle.chars.proofs.bytes.lowest.Tie as tie
-use Rattle.chars.proofs.bytes.lowest.Reads as reads
-use Rattle.chars.proofs.bytes.lowest.Lts as lts
 
 returns : tie.Need-returns
 unfolding lowest

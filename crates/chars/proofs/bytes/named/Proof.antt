@@ -3,8 +3,6 @@ use borrow.Author.Tests.{ne-eqb}
 use Rattle.chars.specs.Bytes.{named}
 use Rattle.chars.proofs.bytes.named.Statement.{statement}
 use Rattle.chars.proofs.bytes.named.Tie as tie
-use Rattle.chars.proofs.bytes.named.Reads as reads
-use Rattle.chars.proofs.bytes.named.Lts as lts
 
 returns : tie.Need-returns
 unfolding named

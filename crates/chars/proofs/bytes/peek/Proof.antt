@@ -3,8 +3,6 @@ use lib.ListN.{List·getD-eq-default}
 use borrow.Author.Needs.{needs}
 use Rattle.chars.proofs.bytes.peek.Statement.{statement}
 use Rattle.chars.proofs.bytes.peek.Tie as tie
-use Rattle.chars.proofs.bytes.peek.Reads as reads
-use Rattle.chars.proofs.bytes.peek.Lts as lts
 
 shared-slice-read-result : tie.Need-shared-slice-read-result
 shared-slice-read-result c = search needs

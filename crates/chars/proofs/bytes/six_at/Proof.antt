@@ -1,10 +1,6 @@
 use borrow.Author.Needs.{needs}
 use Rattle.chars.proofs.bytes.six_at.Statement.{statement}
 use Rattle.chars.proofs.bytes.six_at.Tie as tie
-use Rattle.chars.proofs.bytes.six_at.Reads as reads
-use Rattle.chars.proofs.bytes.six_at.Lts as lts
-use Rattle.chars.proofs.bytes.peek.Reads as peek-reads
-use Rattle.chars.proofs.bytes.six_bits.Reads as six-bits-reads
 
 peek-requires : tie.Need-peek-requires
 peek-requires c κs = search needs

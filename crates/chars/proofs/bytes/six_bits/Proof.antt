@@ -5,9 +5,6 @@ use Rattle.chars.specs.Bytes.{sixBits}
 use borrow.Author.Needs.{needs}
 use Rattle.chars.proofs.bytes.six_bits.Statement.{statement}
 use Rattle.chars.proofs.bytes.six_bits.Tie as tie
-use Rattle.chars.proofs.bytes.six_bits.Reads as reads
-use Rattle.chars.proofs.bytes.six_bits.Lts as lts
-use Rattle.chars.proofs.bytes.wide.Reads as wide-reads
 
 returns : tie.Need-returns
 unfolding sixBits

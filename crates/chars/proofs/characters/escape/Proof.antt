@@ -3,13 +3,6 @@ use Rattle.chars.specs.Characters.{escapeAt}
 use borrow.Author.Needs.{needs}
 use Rattle.chars.proofs.characters.escape.Statement.{statement}
 use Rattle.chars.proofs.characters.escape.Tie as tie
-use Rattle.chars.proofs.characters.escape.Reads as reads
-use Rattle.chars.proofs.characters.escape.Lts as lts
-use Rattle.chars.proofs.bytes.named.Reads as named-reads
-use Rattle.chars.proofs.bytes.peek.Reads as peek-reads
-use Rattle.chars.proofs.characters.unicode.Reads as unicode-reads
-use Rattle.chars.proofs.bytes.wide.Reads as wide-reads
-use Rattle.chars.proofs.characters.wrong.Reads as wrong-reads
 
 add-peek : tie.Need-add-peek
 add-peek c = search needs

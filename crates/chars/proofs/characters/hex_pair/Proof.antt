@@ -3,9 +3,6 @@ use Rattle.chars.specs.Characters.{hexPair}
 use borrow.Author.Needs.{needs}
 use Rattle.chars.proofs.characters.hex_pair.Statement.{statement}
 use Rattle.chars.proofs.characters.hex_pair.Tie as tie
-use Rattle.chars.proofs.characters.hex_pair.Reads as reads
-use Rattle.chars.proofs.characters.hex_pair.Lts as lts
-use Rattle.chars.proofs.bytes.digit_at.Reads as digit-at-reads
 
 digit-at-requires : tie.Need-digit-at-requires
 digit-at-requires c κs = search needs

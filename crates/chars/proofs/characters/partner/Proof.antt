@@ -9,14 +9,6 @@ use Rattle.chars.specs.Characters.{partnerAt}
 use borrow.Author.Needs.{needs}
 use Rattle.chars.proofs.characters.partner.Statement.{statement}
 use Rattle.chars.proofs.characters.partner.Tie as tie
-use Rattle.chars.proofs.characters.partner.Reads as reads
-use Rattle.chars.proofs.characters.partner.Lts as lts
-use Rattle.chars.proofs.bytes.digit_at.Reads as digit-at-reads
-use Rattle.chars.proofs.characters.hex_pair.Reads as hex-pair-reads
-use Rattle.chars.proofs.bytes.peek.Reads as peek-reads
-use Rattle.chars.proofs.characters.stop.Reads as stop-reads
-use Rattle.chars.proofs.bytes.wide.Reads as wide-reads
-use Rattle.chars.proofs.characters.wrong.Reads as wrong-reads
 
 -- the tests that were passed, of the string s at i
 abbrev P₁ : List ℕ → ℕ → Type 0

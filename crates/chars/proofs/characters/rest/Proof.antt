@@ -5,11 +5,6 @@ use Rattle.chars.specs.Characters.{restAt}
 use borrow.Author.Needs.{needs}
 use Rattle.chars.proofs.characters.rest.Statement.{statement}
 use Rattle.chars.proofs.characters.rest.Tie as tie
-use Rattle.chars.proofs.characters.rest.Reads as reads
-use Rattle.chars.proofs.characters.rest.Lts as lts
-use Rattle.chars.proofs.characters.hex_pair.Reads as hex-pair-reads
-use Rattle.chars.proofs.characters.partner.Reads as partner-reads
-use Rattle.chars.proofs.characters.wrong.Reads as wrong-reads
 
 add-hex-pair : tie.Need-add-hex-pair
 add-hex-pair c = search needs

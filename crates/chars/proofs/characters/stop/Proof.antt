@@ -2,8 +2,6 @@ use borrow.Author.Tests.{lt-ltb, le-ltb}
 use Rattle.chars.specs.Characters.{stopAt}
 use Rattle.chars.proofs.characters.stop.Statement.{statement}
 use Rattle.chars.proofs.characters.stop.Tie as tie
-use Rattle.chars.proofs.characters.stop.Reads as reads
-use Rattle.chars.proofs.characters.stop.Lts as lts
 
 returns : tie.Need-returns
 unfolding stopAt

@@ -4,13 +4,6 @@ use Rattle.chars.specs.Characters.{threeAt}
 use borrow.Author.Needs.{needs}
 use Rattle.chars.proofs.characters.three.Statement.{statement}
 use Rattle.chars.proofs.characters.three.Tie as tie
-use Rattle.chars.proofs.characters.three.Reads as reads
-use Rattle.chars.proofs.characters.three.Lts as lts
-use Rattle.chars.proofs.bytes.highest.Reads as highest-reads
-use Rattle.chars.proofs.bytes.lowest.Reads as lowest-reads
-use Rattle.chars.proofs.bytes.six_at.Reads as six-at-reads
-use Rattle.chars.proofs.characters.stop.Reads as stop-reads
-use Rattle.chars.proofs.bytes.wide.Reads as wide-reads
 
 add-six-at : tie.Need-add-six-at
 add-six-at c = search needs

@@ -3,11 +3,6 @@ use Rattle.chars.specs.Characters.{twoAt}
 use borrow.Author.Needs.{needs}
 use Rattle.chars.proofs.characters.two.Statement.{statement}
 use Rattle.chars.proofs.characters.two.Tie as tie
-use Rattle.chars.proofs.characters.two.Reads as reads
-use Rattle.chars.proofs.characters.two.Lts as lts
-use Rattle.chars.proofs.bytes.six_at.Reads as six-at-reads
-use Rattle.chars.proofs.characters.stop.Reads as stop-reads
-use Rattle.chars.proofs.bytes.wide.Reads as wide-reads
 
 add-six-at : tie.Need-add-six-at
 add-six-at c = search needs

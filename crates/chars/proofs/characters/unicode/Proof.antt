@@ -5,11 +5,6 @@ use Rattle.chars.specs.Characters.{unicodeAt}
 use borrow.Author.Needs.{needs}
 use Rattle.chars.proofs.characters.unicode.Statement.{statement}
 use Rattle.chars.proofs.characters.unicode.Tie as tie
-use Rattle.chars.proofs.characters.unicode.Reads as reads
-use Rattle.chars.proofs.characters.unicode.Lts as lts
-use Rattle.chars.proofs.characters.hex_pair.Reads as hex-pair-reads
-use Rattle.chars.proofs.characters.rest.Reads as rest-reads
-use Rattle.chars.proofs.characters.wrong.Reads as wrong-reads
 
 add-hex-pair : tie.Need-add-hex-pair
 add-hex-pair c = search needs

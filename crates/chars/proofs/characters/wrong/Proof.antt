@@ -2,11 +2,6 @@ use Rattle.chars.specs.Characters.{wrongAt}
 use borrow.Author.Needs.{needs}
 use Rattle.chars.proofs.characters.wrong.Statement.{statement}
 use Rattle.chars.proofs.characters.wrong.Tie as tie
-use Rattle.chars.proofs.characters.wrong.Reads as reads
-use Rattle.chars.proofs.characters.wrong.Lts as lts
-use Rattle.chars.proofs.bytes.code_of.Reads as code-of-reads
-use Rattle.chars.proofs.bytes.peek.Reads as peek-reads
-use Rattle.chars.proofs.characters.stop.Reads as stop-reads
 
 peek-requires : tie.Need-peek-requires
 peek-requires c κs = search needs

@@ -1,7 +1,7 @@
 -- `chars::scalars::scalar` meets its contract: nothing stands behind the text, and else each case of what the value begins with.
-use mathlib.Core.Path.{refl, sym, _∙_}
+use mathlib.Core.Path.{refl}
 use borrow.Author.Needs.{needs}
-use Rattle.chars.specs.Tokens.{tokenOf, Null, False, True}
+use Rattle.chars.specs.Tokens.{Null, False, True}
 use Rattle.chars.proofs.scalars.Laws.{by-end}
 use Rattle.chars.proofs.scalars.Steps.{scalar-none}
 use Rattle.chars.proofs.scalars.scalar.Statement.{statement}
