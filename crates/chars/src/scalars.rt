@@ -10,7 +10,7 @@ ghost use mathlib.Core.Path.{_≡_};
 ghost use Rattle.chars.specs.Tokens.{tokenOf, kindNumber, Kind};
 ghost use Rattle.chars.specs.Bytes.{byteAt};
 ghost use Rattle.chars.specs.Scalars.{firstOf, wordAt, quoted, scalarBy};
-ghost use Rattle.chars.specs.Integers.{minusEnd, integerEnd};
+ghost use Rattle.chars.specs.Integers.{digitsFrom, integerEnd};
 ghost use Rattle.chars.specs.Strings.{stringAt};
 ghost use Prim.Native.Nat.{_<_, _+_};
 ghost use lib.ListN.{length};
@@ -98,21 +98,10 @@ pub fn scalar(first: First, text: &[u8], at: usize) -> Token
     }
 }
 
-// The place behind a minus, where one stands.
-fn minus(text: &[u8], at: usize) -> usize
-    ensures { λ r. ⌜ r ≡ minusEnd (now (text .entry)) at ⌝ }
+// The place behind the digits that begin at `from`, with no 0; `at` where none do, or where the number goes on behind them.
+fn digits_from(text: &[u8], at: usize, from: usize) -> usize
+    ensures { λ r. ⌜ r ≡ digitsFrom (now (text .entry)) at from ⌝ }
 {
-    if peek(text, at) == b'-' {
-        return at + 1;
-    }
-    at
-}
-
-// The place behind the number at a place that has digits alone, perhaps behind a minus, and begins with no 0; the place itself where none stands there.
-pub fn integer_end(text: &[u8], at: usize) -> usize
-    ensures { λ r. ⌜ r ≡ integerEnd (now (text .entry)) at ⌝ }
-{
-    let from = minus(text, at);
     match peek(text, from) {
         b'1'..=b'9' => {
             let end = digits(text, from + 1);
@@ -125,4 +114,14 @@ pub fn integer_end(text: &[u8], at: usize) -> usize
         }
         _ => at,
     }
+}
+
+// The place behind the number at a place that has digits alone, perhaps behind a minus, and begins with no 0; the place itself where none stands there.
+pub fn integer_end(text: &[u8], at: usize) -> usize
+    ensures { λ r. ⌜ r ≡ integerEnd (now (text .entry)) at ⌝ }
+{
+    if peek(text, at) == b'-' {
+        return digits_from(text, at, at + 1);
+    }
+    digits_from(text, at, at)
 }
