@@ -82,8 +82,9 @@ enum teleport_kind {
  * Tables afterwards:
  * - With the codes 1 to 8 the table of the text that the answer names is as it was, and so is that of a text that was not
  *   reached: where Check refuses the schema, the document's; where Compare refuses the new schema, the old one's.
- * - Every other table holds the rows of its text: with 0, 20 to 22 and 30 each of them, and with 10 to 12 that of the schema
- *   that is no definition. The words behind the last row are as they were. A text has at most as many rows as bytes.
+ * - Every other table holds the rows of its text, and the words behind the last row are as they were: with 0, 20 to 22 and
+ *   30 all tables; with 10 to 12 that of the schema that is refused; where Check refuses the document, the schema's; where
+ *   Compare refuses the old schema, the new one's. A text has at most as many rows as bytes.
  *
  *     static const uint8_t text[] = "[1,]";
  *     uint32_t table[5 * 4], answer[4];

@@ -75,7 +75,7 @@ class Folder:
         """A case's description and whether it holds: the line, nothing on the other output, status 0."""
         arguments, line = case
         found = self.run(arguments, pieces, user or {})
-        shown = " ".join(os.fsdecode(argument)[:60] for argument in arguments)
+        shown = " ".join(ascii(argument)[:60] for argument in arguments)
         return "teleport %s: wanted %r, found %r" % (shown, line, found), found == (line.encode() + b"\n", b"", 0)
 
 

@@ -27,22 +27,20 @@ pub enum First {
     Other,
 }
 
-// The first byte of a value decides what is read. The compiler tests single bytes before ranges, so the digits, which are most, stand first.
+// The first byte of a value decides what is read.
 fn begins(b: u8) -> First
     ensures { λ r. ⌜ r ≡ firstOf b ⌝ }
 {
     match b {
+        b'"' => First::Quote,
+        b'[' => First::Array,
+        b'{' => First::Object,
+        b'-' => First::Number,
         b'0'..=b'9' => First::Number,
-        _ => match b {
-            b'"' => First::Quote,
-            b'[' => First::Array,
-            b'{' => First::Object,
-            b'-' => First::Number,
-            b'n' => First::LetterN,
-            b'f' => First::LetterF,
-            b't' => First::LetterT,
-            _ => First::Other,
-        },
+        b'n' => First::LetterN,
+        b'f' => First::LetterF,
+        b't' => First::LetterT,
+        _ => First::Other,
     }
 }
 

@@ -149,7 +149,7 @@ pub fn value(
     }
 }
 
-// The value at a place, an element or what stands under a name. Most numbers are digits alone: these are told without a further call.
+// The value at a place, an element or what stands under a name. Most numbers are digits alone, perhaps behind a minus, and begin with no 0: these are told without a further call.
 fn item(
     text: &[u8],
     heads: &mut [u16],
