@@ -27,20 +27,22 @@ pub enum First {
     Other,
 }
 
-// The first byte of a value decides what is read.
+// The first byte of a value decides what is read. The compiler tests the single bytes of a match before its ranges, so they stand behind the digits.
 fn begins(b: u8) -> First
     ensures { λ r. ⌜ r ≡ firstOf b ⌝ }
 {
     match b {
-        b'"' => First::Quote,
-        b'[' => First::Array,
-        b'{' => First::Object,
-        b'-' => First::Number,
         b'0'..=b'9' => First::Number,
-        b'n' => First::LetterN,
-        b'f' => First::LetterF,
-        b't' => First::LetterT,
-        _ => First::Other,
+        _ => match b {
+            b'"' => First::Quote,
+            b'[' => First::Array,
+            b'{' => First::Object,
+            b'-' => First::Number,
+            b'n' => First::LetterN,
+            b'f' => First::LetterF,
+            b't' => First::LetterT,
+            _ => First::Other,
+        },
     }
 }
 
