@@ -1,0 +1,18 @@
+-- `writer::characters::char_len` meets its contract: each way by the law of its spelling.
+use mathlib.Core.Path.{_≡_, sym, ap, _∙_}
+use native.Mathlib.Omega.{arith}
+use lib.ListN.{length}
+use borrow.Author.Needs.{needs}
+use Rattle.writer.proofs.characters.Laws.{by-short, by-long, by-utf8, utf8-one, utf8-two, utf8-three, utf8-four}
+use Rattle.writer.proofs.characters.char_len.Statement.{statement}
+use Rattle.writer.proofs.characters.char_len.Tie as tie
+
+pub char-len-spec : {M : Type 1} → statement M
+char-len-spec = tie.close (tie.spec
+    (λ c κs. search needs)  -- letter-requires
+    (λ c. sym (ap length (by-short _ (λ z. c .if1 .taken (c .before .letter .ensures ∙ z)))))
+    (λ c. sym (ap length (by-long _ (sym (c .before .before .letter .ensures) ∙ omega arith) (c .if2 .taken))))
+    (λ c. sym (ap length (by-utf8 _ (sym (c .before .before .before .letter .ensures) ∙ omega arith) (omega arith) ∙ utf8-one _ (omega arith))))
+    (λ c. sym (ap length (by-utf8 _ (sym (c .before .before .before .before .letter .ensures) ∙ omega arith) (omega arith) ∙ utf8-two _ (omega arith) (omega arith))))
+    (λ c. sym (ap length (by-utf8 _ (sym (c .before .before .before .before .before .letter .ensures) ∙ omega arith) (omega arith) ∙ utf8-three _ (omega arith) (omega arith))))
+    (λ c. sym (ap length (by-utf8 _ (sym (c .before .before .before .before .before .letter .ensures) ∙ omega arith) (omega arith) ∙ utf8-four _ (omega arith)))))

@@ -1,0 +1,38 @@
+-- `writer::runs::copy_atom` meets its contract. The loop's invariant: the run goes on at i, and its bytes up to there are written.
+use mathlib.Core.Path.{_≡_, sym, ap, _∙_}
+use Prim.Native.Nat.{_-_}
+use native.Mathlib.Omega.{arith}
+use borrow.Author.Needs.{needs}
+use borrow.Author.Tests.{not-true, not-false}
+use lib.ListN.{length}
+use Rattle.chars.proofs.Facts.{run-end, run-stop}
+use Rattle.writer.specs.Runs.{isAtom}
+use Rattle.writer.proofs.runs.Laws.{Copying, copying-none, copying-length, copying-room, copying-next, copying-done}
+use Rattle.writer.proofs.runs.copy_atom.Statement.{statement}
+use Rattle.writer.proofs.runs.copy_atom.Tie as tie
+
+abbrev Inv : tie.InvT-loop
+Inv text at out₀ i₀ out i = Copying isAtom text at out₀ i out
+
+abbrev μ : tie.MeasureT-loop
+μ text at out₀ i₀ out i = length text - i
+
+returns : tie.Need-returns Inv μ
+returns c =
+    let g = c .before .before .before .before .loop .inv in
+    copying-done isAtom _ _ _ g (run-stop isAtom _ _ (sym (c .before .is-atom .ensures) ∙ not-true _ (c .if1 .taken)))
+
+pub copy-atom-spec : {M : Type 1} → statement M
+copy-atom-spec = tie.close (tie.spec Inv μ
+    (λ c. copying-none isAtom _ _ _)  -- loop-holds
+    (λ c. omega arith)  -- text[i]
+    (λ c κs. search needs)  -- is-atom-requires
+    (λ c. copying-length isAtom _ _ _ (c .before .before .before .before .before .before .before .pre) (c .before .before .before .before .loop .inv))  -- same-length
+    returns
+    (λ c. omega (arith, c .before .before .before .before .loop .inv .ahead))  -- i - at
+    (λ c. copying-room isAtom _ _ _ (c .before .before .before .before .before .before .before .pre) (c .before .before .before .before .loop .inv) (c .before .before .before .loop-test .taken) (sym (c .before .is-atom .ensures) ∙ not-false _ (c .if1 .left)))  -- out[i - at]
+    (λ c. omega arith)  -- i + 1
+    (λ c. omega arith)  -- loop-less
+    (λ c. copying-next isAtom _ _ _ (c .before .before .before .before .before .before .before .pre) (c .before .before .before .before .loop .inv) (c .before .before .before .loop-test .taken) (sym (c .before .is-atom .ensures) ∙ not-false _ (c .if1 .left)))  -- loop-again
+    (λ c. copying-length isAtom _ _ _ (c .before .before .before .before .pre) (c .before .loop .inv))  -- same-length-2
+    (λ c. copying-done isAtom _ _ _ (c .before .loop .inv) (run-end isAtom _ _ (c .loop-test .left))))  -- the text ended

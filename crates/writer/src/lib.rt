@@ -1,0 +1,8 @@
+// Compact (02, L6): one spelling for a file.
+mod characters;
+mod compacting;
+mod pieces;
+mod runs;
+mod writing;
+
+pub use compacting::compact;
