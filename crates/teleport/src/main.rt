@@ -1,10 +1,11 @@
 // The program of 01 ("The program"): a command and its files as arguments, and one line as the
 // answer. Each command is a function that loads all its files before its service begins, so that
 // `no file` stands before any code.
-mod files;
-mod lines;
-
-use files::Loaded;
+use console::Loaded;
+use console::answer;
+use console::asks;
+use console::load;
+use console::no_file;
 
 // One byte over the limit of a document (65,536), so that a longer file gives the service a text
 // over its limit, be it a document or a schema.
@@ -16,61 +17,46 @@ const TABLE: usize = 16380;
 // `read FILE`.
 fn read() {
     let mut text = [0u8; TEXT];
-    let Loaded::Bytes(n) = files::load(2, &mut text) else {
-        lines::no_file();
+    let Loaded::Bytes(n) = load(2, &mut text) else {
+        no_file();
         return;
     };
     let mut table = [0u32; TABLE];
-    lines::answer(reader::read(&text[..n], &mut table));
+    answer(reader::read(&text[..n], &mut table));
 }
 
 // `check FILE FILE`: a document and a schema.
 fn check() {
     let mut document = [0u8; TEXT];
-    let Loaded::Bytes(n) = files::load(2, &mut document) else {
-        lines::no_file();
+    let Loaded::Bytes(n) = load(2, &mut document) else {
+        no_file();
         return;
     };
     let mut schema = [0u8; TEXT];
-    let Loaded::Bytes(m) = files::load(3, &mut schema) else {
-        lines::no_file();
+    let Loaded::Bytes(m) = load(3, &mut schema) else {
+        no_file();
         return;
     };
     let mut table1 = [0u32; TABLE];
     let mut table2 = [0u32; TABLE];
-    lines::answer(schema::check(&document[..n], &schema[..m], &mut table1, &mut table2));
+    answer(schema::check(&document[..n], &schema[..m], &mut table1, &mut table2));
 }
 
 // `compare FILE FILE`: a new schema and an old one.
 fn compare() {
     let mut new = [0u8; TEXT];
-    let Loaded::Bytes(n) = files::load(2, &mut new) else {
-        lines::no_file();
+    let Loaded::Bytes(n) = load(2, &mut new) else {
+        no_file();
         return;
     };
     let mut old = [0u8; TEXT];
-    let Loaded::Bytes(m) = files::load(3, &mut old) else {
-        lines::no_file();
+    let Loaded::Bytes(m) = load(3, &mut old) else {
+        no_file();
         return;
     };
     let mut table1 = [0u32; TABLE];
     let mut table2 = [0u32; TABLE];
-    lines::answer(schema::compare(&new[..n], &old[..m], &mut table1, &mut table2));
-}
-
-// Whether the program was started with this command, and with as many arguments as it takes: its
-// own name and the command among them.
-fn asks(command: &[u8], count: usize) -> bool {
-    if os::arg_count() != count {
-        return false;
-    }
-    // room for the longest command, and a longer word is none
-    let mut word = [0u8; 8];
-    let n = os::arg(1, &mut word);
-    if os::errno() != 0 {
-        return false;
-    }
-    check::same(&word[..n], command)
+    answer(schema::compare(&new[..n], &old[..m], &mut table1, &mut table2));
 }
 
 fn main() {
@@ -81,6 +67,6 @@ fn main() {
     } else if asks(b"compare", 4) {
         compare();
     } else {
-        lines::no_file();
+        no_file();
     }
 }

@@ -1,6 +1,6 @@
 -- `teleport::check` is safe and ends: what `load` ensures of its answers puts both texts within their buffers.
-use Rattle.teleport.specs.Loaded.{Within}
-use Rattle.teleport.specs.declared.files.Loaded.the-variants.{Bytes}
+use Rattle.console.specs.Loaded.{Within}
+use Rattle.console.specs.declared.files.Loaded.the-variants.{Bytes}
 use borrow.Author.Needs.{needs}
 use Rattle.teleport.proofs.check.Statement.{statement}
 use Rattle.teleport.proofs.check.Tie as tie

@@ -5,8 +5,8 @@ use mathlib.Core.Path.{_≡_}
 use lib.ListN.{length}
 use borrow.Author.Needs.{needs}
 use Rattle.io.proofs.Counting.{counts}
-use Rattle.teleport.proofs.files.fill.Statement.{statement}
-use Rattle.teleport.proofs.files.fill.Tie as tie
+use Rattle.console.proofs.files.fill.Statement.{statement}
+use Rattle.console.proofs.files.fill.Tie as tie
 
 abbrev Inv-loop : tie.InvT-loop
 Inv-loop fd buf₀ n₀ buf n = (length buf ≡ length buf₀) × (n ≤ length buf)

@@ -1,5 +1,5 @@
 // A file that an argument names, read into a buffer.
-ghost use Rattle.teleport.specs.Loaded.{Within};
+ghost use Rattle.console.specs.Loaded.{Within};
 
 // How many bytes of the file are at the start of the buffer, or that it cannot be read.
 pub enum Loaded {

@@ -1,0 +1,10 @@
+// What a program needs around a service: its command, the files that its arguments name, and the line that it prints.
+mod commands;
+mod files;
+mod lines;
+
+pub use commands::asks;
+pub use files::Loaded;
+pub use files::load;
+pub use lines::answer;
+pub use lines::no_file;
