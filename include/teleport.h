@@ -1,4 +1,4 @@
-/* Reads JSON text, checks a document against a Teleport schema, compares two schemas. */
+/* Reads JSON text, checks a document against a Teleport schema, compares two schemas, writes a text in its one spelling. */
 #ifndef TELEPORT_H
 #define TELEPORT_H
 
@@ -15,7 +15,7 @@ extern "C" {
  * with 3 to 7 no such text begins with one byte more.
  */
 enum teleport_code {
-    TELEPORT_OK = 0,                  /* read, met or carried: 0; after Read the number of rows */
+    TELEPORT_OK = 0,                  /* read, met, carried or written: 0; after Read the rows, after Compact the length */
     TELEPORT_TOO_LONG = 1,            /* the limit; 0 */
     TELEPORT_ENDED_EARLY = 2,         /* the length of the text; 0 */
     TELEPORT_BYTE_NOT_ALLOWED = 3,    /* that byte; 0 */
@@ -30,7 +30,8 @@ enum teleport_code {
     TELEPORT_WRONG_KIND = 20,         /* the value's first byte; the definition's first byte, in the schema */
     TELEPORT_MISSING = 21,            /* the object's brace; the opening quote of the name, in the schema */
     TELEPORT_NO_DATE = 22,            /* the string's opening quote; the definition's first byte, in the schema */
-    TELEPORT_NOT_CARRIED = 30         /* 0; 0 */
+    TELEPORT_NOT_CARRIED = 30,        /* 0; 0 */
+    TELEPORT_SHORT_BUFFER = 60        /* 0; the bytes needed */
 };
 
 /* answer[1] is the text that the place is in: 1 or 2 in the order of the arguments, 0 for none. */
@@ -72,9 +73,10 @@ enum teleport_kind {
 /*
  * What the caller keeps, in each call:
  * - A text pointer is not NULL and leads to as many readable bytes as its length says; a table pointer is not NULL, is
- *   aligned for uint32_t and leads to as many writable words as its length says. A length may be 0.
- * - answer has four words. No table overlaps the other table, a text or the answer, and nobody else writes to any of
- *   them during the call. The two texts may overlap or be the same.
+ *   aligned for uint32_t and leads to as many writable words as its length says; a buffer pointer is not NULL and leads
+ *   to as many writable bytes as its length says. A length may be 0.
+ * - answer has four words. No table or buffer overlaps another table, a text or the answer, and nobody else writes to
+ *   any of them during the call. The two texts may overlap or be the same.
  *
  * Every call returns, whatever the bytes are. It allocates nothing, keeps no state, may run on several threads and
  * needs less than TELEPORT_STACK_BYTES (320 KiB) of stack.
@@ -82,9 +84,12 @@ enum teleport_kind {
  * Tables afterwards:
  * - With the codes 1 to 8 the table of the text that the answer names is as it was, and so is that of a text that was not
  *   reached: where Check refuses the schema, the document's; where Compare refuses the new schema, the old one's.
- * - Every other table holds the rows of its text, and the words behind the last row are as they were: with 0, 20 to 22 and
- *   30 all tables; with 10 to 12 that of the schema that is refused; where Check refuses the document, the schema's; where
+ * - Every other table holds the rows of its text, and the words behind the last row are as they were: with 0, 20 to 22, 30
+ *   and 60 all tables; with 10 to 12 that of the schema that is refused; where Check refuses the document, the schema's; where
  *   Compare refuses the old schema, the new one's. A text has at most as many rows as bytes.
+ *
+ * A buffer afterwards: with 0 it holds what was written, from byte 0, and the bytes behind are as they were; with every
+ * other code it is as it was.
  *
  *     static const uint8_t text[] = "[1,]";
  *     uint32_t table[5 * 4], answer[4];
@@ -101,6 +106,15 @@ void teleport_check(const uint8_t *document, size_t document_len, const uint8_t 
 /* Does every JSON value that meets the new schema (text 1, table1) meet the old one (text 2, table2)? */
 void teleport_compare(const uint8_t *new_schema, size_t new_len, const uint8_t *old_schema, size_t old_len,
                       uint32_t *table1, size_t table1_len, uint32_t *table2, size_t table2_len, uint32_t answer[4]);
+
+/*
+ * Writes the one spelling of the text's value to buffer: no space; members in their order; numbers as spelled; in strings
+ * only ", \ and bytes under 20 hex escaped, by the short form where there is one, else \u00 with lower-case digits. Two
+ * texts come out equal exactly when they are the same JSON value, members in the same order. What is written is never
+ * longer than the text. The codes are those of Read, then 60.
+ */
+void teleport_compact(const uint8_t *text, size_t text_len, uint32_t *table, size_t table_len,
+                      uint8_t *buffer, size_t buffer_len, uint32_t answer[4]);
 
 #ifdef __cplusplus
 }

@@ -5,6 +5,7 @@ ghost use lib.ListN.{length};
 ghost use Rattle.reader.specs.Answer.{documentLimits, readWithin, answerOf, tableOf};
 ghost use Rattle.schema.specs.Check.{readSchema, checkAnswer, checkTable, Meeting};
 ghost use Rattle.schema.specs.Compare.{Compares, compareTable};
+ghost use Rattle.writer.specs.Compact.{compactAnswer, compactBuffer};
 ghost use Rattle.teleport_c.specs.Words.{answerWords, code, Written};
 
 // The four numbers of an answer.
@@ -54,4 +55,19 @@ pub extern "C" fn teleport_compare(
     ensures rows2 { λ _. ⌜ now (table2 .exit) ≡ compareTable (length (now (table1 .entry))) (now (table2 .entry)) (now (new .entry)) (now (old .entry)) ⌝ }
 {
     *answer = words(schema::compare(new, old, table1, table2));
+}
+
+// Compact (02, L6): a text and a table, and a buffer for its one spelling.
+#[no_mangle]
+pub extern "C" fn teleport_compact(
+    text: &[u8],
+    table: &mut [u32],
+    buffer: &mut [u8],
+    answer: &mut [u32; 4],
+)
+    ensures answers { λ _. ⌜ now (answer .exit) ≡ answerWords (compactAnswer (length (now (table .entry))) (length (now (buffer .entry))) (now (text .entry))) ⌝ }
+    ensures rows { λ _. ⌜ now (table .exit) ≡ tableOf (now (table .entry)) (readWithin documentLimits (now (text .entry))) ⌝ }
+    ensures writes { λ _. ⌜ now (buffer .exit) ≡ compactBuffer (length (now (table .entry))) (now (buffer .entry)) (now (text .entry)) ⌝ }
+{
+    *answer = words(writer::compact(text, table, buffer));
 }
