@@ -4,7 +4,7 @@ pub use Rattle.chars.proofs.strings.Laws.{ScanAhead, string-ahead, stri
 pub use Rattle.chars.proofs.strings.Meaning.{same-true}
 pub use Rattle.chars.proofs.plain.Laws.{digit-read}
 pub use Rattle.chars.proofs.hashing.Laws.{hash-small, name-hashed, name-broken}
-pub use Rattle.chars.proofs.space.Laws.{run-end, run-next, run-stop, run-from, run-within}
+pub use Rattle.chars.proofs.space.Laws.{run-end, run-next, run-stop, run-from, run-within, run-ended}
 pub use Rattle.chars.proofs.scalars.Laws.{first-array, first-object, quote-first, array-first, object-first}
 pub use Rattle.chars.proofs.scalars.Laws.{scalar-bounded, scalar-end, scalar-spells, integer-read, quoted-bounds, quoted-characters, characters-text}
 -- for the written grammar

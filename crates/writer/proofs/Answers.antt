@@ -54,6 +54,18 @@ module _ (w : ℕ) (buffer s : List ℕ) (c : Compacted w (length buffer) s) whe
   pub compacted-length : length (compactBuffer w buffer s) ≡ length buffer
   compacted-length = rw compacted-buffer (simp (length-append, length-drop) (let f = c .fits in omega arith))
 
+-- no buffer is too short that has room for the spelling
+pub no-short : (w b : ℕ) (s : List ℕ) → ((n : Node) (e : ℕ) → readWithin documentLimits s ≡ parsed n e → length (spelled s n) ≤ b) → compactAnswer w b s .code ≡ 60 → ⊥
+unfolding answerBy answerOf
+no-short w b s f = go (readWithin documentLimits s) refl
+  where
+    go : (o : Parse Node) → readWithin documentLimits s ≡ o → answerBy w b s o .code ≡ 60 → ⊥
+    go (refused c p) q h = omega (arith, read-code 65536 32 s c p q)
+    go (parsed n e) q h =
+        by-test (leb (size n) (rowsIn w))
+        (λ r. let z : _≡_ {A = ℕ} 0 60 = rw (r, le-leb _ _ (f n e q)) at h in omega arith)
+        (λ r. let z : _≡_ {A = ℕ} 8 60 = rw r at h in omega arith)
+
 -- ---- by the room in the buffer
 
 module _ (out w : List ℕ) {n : ℕ} (e : n ≡ length w) where

@@ -4,7 +4,7 @@ use mathlib.Core.Path.{_≡_, refl, sym, ap, _∙_}
 use mathlib.Core.Bool.{Bool, true, false}
 use mathlib.Core.List.{List, [], _∷_, _++_, append-assoc}
 use native.Mathlib.Omega.{arith}
-use lib.ListN.{length, length-append, length-take, length-drop}
+use lib.ListN.{length, length-append}
 use lib.Dec.{eqb}
 use borrow.Author.Tests.{eqb-true, eqb-false}
 use Rattle.model.specs.Text.{all}
@@ -23,6 +23,7 @@ use Rattle.grammar.proofs.Pieces.{At}
 use Rattle.writer.specs.Spell.{spellChars}
 use Rattle.writer.specs.Runs.{isOrdinary, ordinaryEnd}
 use Rattle.writer.specs.Tokens.{stringBytes}
+use Rattle.writer.proofs.runs.Laws.{length-part}
 use Rattle.writer.proofs.Copied.{never, char-short, char-copied, char-is}
 
 -- from i on: the string goes on behind the stretch, which is copied
@@ -59,7 +60,7 @@ each-char s e P last more i h = from (length s) i (omega arith) h
 -- ---- lengths
 
 part-length : (s : List ℕ) (i j : ℕ) → i ≤ j → j ≤ length s → i + length (part s i j) ≡ j
-part-length s i j l m = simp (length-take, length-drop) (omega arith)
+part-length s i j l m = omega (arith, length-part s i j l (omega arith))
 
 pub chars-fit : (s : List ℕ) (i e : ℕ) → stringAt s i ≡ Ends e → i + length (spellChars (charsAt s i)) < e
 chars-fit s i e h =

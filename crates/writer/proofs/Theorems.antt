@@ -21,7 +21,7 @@ use Rattle.writer.specs.Depth.{depthOf}
 use Rattle.writer.specs.Compact.{spelled, over, compactAnswer, compactBuffer}
 use Rattle.writer.proofs.Depths.{text-depth}
 use Rattle.writer.proofs.Sizes.{same-size}
-use Rattle.writer.proofs.Answers.{Compacted, compacted, compacted-answer, compacted-buffer, compacted-length}
+use Rattle.writer.proofs.Answers.{no-short, Compacted, compacted, compacted-answer, compacted-buffer, compacted-length}
 -- the spelling of a JSON value is a text of the written grammar that spells this value, with no more brackets open than the value is deep
 pub use Rattle.writer.proofs.Spelled.{spell-text}
 -- what is written for a text is never longer than the text
@@ -87,6 +87,10 @@ module _ (bytes depth : ℕ) (s : List ℕ) (n : Node) (e : ℕ) (q : readText b
       let z : parsed m f ≡ parsed (x .0) (x .1) = sym r ∙ x .2 in
       let y : m ≡ x .0 = cc in
       ap spell (ap (valueOf (spelled s n)) y ∙ x .3)
+
+-- a buffer as long as the text is not too short
+pub compact-room : (t b : ℕ) (s : List ℕ) → length s ≤ b → compactAnswer t b s .code ≡ 60 → ⊥
+compact-room t b s l = no-short t b s (λ n e q. omega (arith, spelled-short 65536 32 s n e q))
 
 -- with the same table and in the same buffer, it gives the same answer and leaves the buffer as it is
 pub compact-again : (w : ℕ) (buffer s : List ℕ) → compactAnswer w (length buffer) s .code ≡ 0

@@ -9,7 +9,7 @@ use chars::Step;
 use chars::char_at;
 use chars::peek;
 ghost use mathlib.Core.Path.{_≡_};
-ghost use Prim.Native.Nat.{_≤_, _<_};
+ghost use Prim.Native.Nat.{_≤_};
 ghost use lib.ListN.{length};
 ghost use Rattle.chars.specs.Spelling.{IsQuoted};
 ghost use Rattle.writer.specs.Compact.{over};

@@ -2,8 +2,6 @@
 use crate::pieces::measure_string;
 use crate::pieces::write_token;
 use chars::skip;
-ghost use mathlib.Core.Path.{_≡_};
-ghost use Prim.Native.Nat.{_≤_};
 ghost use lib.ListN.{length};
 ghost use Rattle.writer.specs.Tokens.{Writable, Measures, Writes};
 

@@ -5,6 +5,7 @@ use mathlib.Core.Bool.{Bool, true, false, cond}
 use Prim.Native.Nat.{ℕ, zero, suc, _+_, _-_, _≤_, _<_}
 use native.Mathlib.Omega.{arith}
 use lib.ListN.{length}
+use Rattle.model.proofs.Basics.{both}
 use Rattle.chars.specs.Bytes.{byteAt}
 use Rattle.chars.specs.Space.{runFrom, run}
 
@@ -42,3 +43,13 @@ module _ (p : ℕ → Bool) (s : List ℕ) where
   pub run-within : (i : ℕ) → i ≤ length s → run p s i ≤ length s
   unfolding run
   run-within i h = omega (arith, from-bound (length s - i) i .1)
+
+  from-ended : (k i : ℕ) → length s ≤ i + k → runFrom k p s i < length s → p (byteAt s (runFrom k p s i)) ≡ false
+  unfolding runFrom
+  from-ended zero i h = λ l. absurd (omega arith)
+  from-ended (suc k) i h = both (λ e. e < length s → p (byteAt s e) ≡ false) (p (byteAt s i)) (λ _. from-ended k (i + 1) (omega arith)) (λ f _. f)
+
+  -- where it ends within the text, a byte stands that does not pass
+  pub run-ended : (i : ℕ) → run p s i < length s → p (byteAt s (run p s i)) ≡ false
+  unfolding run
+  run-ended i = from-ended (length s - i) i (omega arith)

@@ -1,12 +1,12 @@
 -- The spelling of a character, by cases.
 use Prim.Native.Nat.{ℕ, _/_, _%_, _+_, _≤_, _<_}
 use mathlib.Core.Path.{_≡_, refl}
-use mathlib.Core.Bool.{true, false, _||_}
-use mathlib.Core.List.{List, [], _∷_}
+use mathlib.Core.Bool.{true, false}
+use mathlib.Core.List.{[], _∷_}
 use native.Mathlib.Omega.{arith}
-use lib.Dec.{eqb, ltb}
-use borrow.Author.Tests.{eqb-true, eqb-false, ne-eqb, lt-ltb, le-ltb}
-use Rattle.model.proofs.Basics.{both, by-test}
+use lib.Dec.{eqb}
+use borrow.Author.Tests.{eqb-true, ne-eqb, lt-ltb, le-ltb}
+use Rattle.model.proofs.Basics.{both}
 use Rattle.grammar.specs.Utf8.{utf8}
 use Rattle.writer.specs.Spell.{isEscaped, letterOf, longForm, spellChar}
 

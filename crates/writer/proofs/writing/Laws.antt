@@ -1,30 +1,18 @@
 -- Along: how far the tokens of a text are written. And one token more.
 use Prim.Native.Nat.{ℕ, zero, suc, _+_, _-_, _≤_, _<_}
 use mathlib.Core.Path.{_≡_, refl, sym, ap, _∙_, subst}
-use mathlib.Core.Bool.{Bool, true, false}
+use mathlib.Core.Bool.{Bool, false}
 use mathlib.Core.List.{List, [], _∷_, _++_, append-assoc, append-nil}
 use native.Mathlib.Omega.{arith}
 use lib.ListN.{length, length-append}
-use Rattle.model.proofs.Basics.{both}
 use Rattle.chars.specs.Bytes.{byteAt}
-use Rattle.chars.specs.Space.{isSpace, runFrom, run, skip}
-use Rattle.chars.proofs.Facts.{run-from}
-use Rattle.writer.specs.Tokens.{stringEnd, stringBytes, tokenEnd, tokenBytes, piece, Tokens, TokenReady, Writable}
+use Rattle.chars.specs.Space.{isSpace, skip}
+use Rattle.chars.proofs.Facts.{run-from, run-ended}
+use Rattle.writer.specs.Tokens.{stringEnd, stringBytes, tokenEnd, tokenBytes, piece, Tokens, TokenReady}
 use Rattle.writer.specs.declared.pieces.Piece.{Piece}
 use Rattle.writer.proofs.Tokens.{tokens-end, tokens-skip, tokens-byte, tokens-token, tokens-one}
 use Rattle.writer.proofs.Texts.{tokens-short}
 use Rattle.writer.proofs.pieces.Laws.{string-token}
-
--- where a run ends within the text, a byte stands that does not pass
-module _ (p : ℕ → Bool) (s : List ℕ) where
-  from-ended : (k i : ℕ) → length s ≤ i + k → runFrom k p s i < length s → p (byteAt s (runFrom k p s i)) ≡ false
-  unfolding runFrom
-  from-ended zero i h = λ l. absurd (omega arith)
-  from-ended (suc k) i h = both (λ e. e < length s → p (byteAt s e) ≡ false) (p (byteAt s i)) (λ _. from-ended k (i + 1) (omega arith)) (λ f _. f)
-
-  run-ended : (i : ℕ) → run p s i < length s → p (byteAt s (run p s i)) ≡ false
-  unfolding run
-  run-ended i = from-ended (length s - i) i (omega arith)
 
 -- the n bytes of `done` are written for the tokens up to i, where the next one stands
 pub record Along (s : List ℕ) (i n : ℕ) (done : List ℕ) : Type 0 where

@@ -1,7 +1,6 @@
 -- `writer::characters::hex_digit` meets its contract.
 use borrow.Author.Needs.{needs}
 use borrow.Author.Tests.{lt-ltb, le-ltb}
-use native.Mathlib.Omega.{arith}
 use Rattle.writer.specs.Spell.{hexDigit}
 use Rattle.writer.proofs.characters.hex_digit.Statement.{statement}
 use Rattle.writer.proofs.characters.hex_digit.Tie as tie

@@ -1,7 +1,6 @@
 -- `writer::compacting::write_measured` meets its contract.
-use mathlib.Core.Path.{ap, _∙_}
+use mathlib.Core.Path.{_∙_}
 use native.Mathlib.Omega.{arith}
-use lib.ListN.{length}
 use borrow.Author.Needs.{needs}
 use Rattle.writer.proofs.Answers.{has-none}
 use Rattle.writer.proofs.compacting.write_measured.Statement.{statement}

@@ -1,5 +1,5 @@
 -- `writer::pieces::write_string` meets its contract. The loop's invariant: the string goes on at i, and what is spelled up to there is written, n bytes.
-use Prim.Native.Nat.{ℕ, _+_, _-_, _<_, _≤_}
+use Prim.Native.Nat.{ℕ, _+_, _-_, _<_}
 use mathlib.Core.Path.{_≡_, sym, ap, _∙_}
 use mathlib.Core.List.{List, [], _∷_, _++_}
 use native.Mathlib.Omega.{arith}

@@ -1,5 +1,5 @@
 -- `writer::runs::copy_atom` meets its contract. The loop's invariant: the run goes on at i, and its bytes up to there are written.
-use mathlib.Core.Path.{_≡_, sym, ap, _∙_}
+use mathlib.Core.Path.{sym, _∙_}
 use Prim.Native.Nat.{_-_}
 use native.Mathlib.Omega.{arith}
 use borrow.Author.Needs.{needs}

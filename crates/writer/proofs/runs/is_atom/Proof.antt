@@ -4,7 +4,7 @@ use mathlib.Core.Bool.{not}
 use borrow.Author.Needs.{needs}
 use borrow.Author.Tests.{ne-eqb}
 use Rattle.chars.specs.Space.{isSpace}
-use Rattle.writer.specs.Runs.{isStructural, isAtom}
+use Rattle.writer.specs.Runs.{isAtom}
 use Rattle.writer.proofs.runs.is_atom.Statement.{statement}
 use Rattle.writer.proofs.runs.is_atom.Tie as tie
 

@@ -1,6 +1,5 @@
 -- `writer::writing::measure` meets its contract. The loop's invariant: n bytes are written for the tokens up to i, where the next one stands.
 use Prim.Native.Nat.{ℕ, _+_, _-_, _<_}
-use mathlib.Core.Path.{_≡_, refl, sym, ap, _∙_}
 use mathlib.Core.List.{List, [], _∷_, _++_}
 use native.Mathlib.Omega.{arith}
 use lib.ListN.{length}

@@ -1,6 +1,6 @@
 -- `writer::writing::write` meets its contract. The loop's invariant: the tokens up to i are written, n bytes, and the next one stands at i.
 use Prim.Native.Nat.{ℕ, _+_, _-_, _<_, _≤_}
-use mathlib.Core.Path.{_≡_, sym, ap, _∙_}
+use mathlib.Core.Path.{_≡_, ap, _∙_}
 use mathlib.Core.List.{List, [], _++_}
 use native.Mathlib.Omega.{arith}
 use lib.ListN.{length}
