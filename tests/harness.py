@@ -1,8 +1,9 @@
 """What the tests share: functions under test, buffers with guards, counting.
 
-A service has one text and one table, or two of each. Its function takes the
-address and length of each text, then of each table, then the address of the
-answer. In the model it is a function of the texts and the tables.
+A service has one text and one table, or two of each, and perhaps a buffer to
+write to. Its function takes the address and length of each text, then of each
+table, then of the buffer, then the address of the answer. In the model it is a
+function of the texts, the tables and the buffer.
 """
 
 import argparse
@@ -14,8 +15,10 @@ import model
 
 DEFAULT_SEED = 1
 
-GUARD = 8       # words, or bytes of text, before and behind each buffer
+GUARD = 8       # words, or bytes, before and behind each buffer
 ANSWER = 4      # words of an answer
+
+WORDS, BYTES = "I", "B"     # what a table and an answer have, and a text and a buffer
 
 # Around a text stand bytes that a reader running on would take for more of it.
 TEXT_GUARDS = b'"]}0 ,:a'
@@ -23,39 +26,42 @@ TEXT_GUARDS = b'"]}0 ,:a'
 
 # The function under test.
 
-def shape(texts):
-    """The type of a function with this many texts and as many tables."""
+def shape(texts, rooms=0):
+    """The type of a function with this many texts, as many tables, and buffers."""
     buffer = [ctypes.c_void_p, ctypes.c_size_t]
-    return ctypes.CFUNCTYPE(None, *(buffer * (2 * texts)), ctypes.c_void_p)
+    return ctypes.CFUNCTYPE(None, *(buffer * (2 * texts + rooms)), ctypes.c_void_p)
 
 
-def load(path, name, texts):
+def load(path, name, texts, rooms=0):
     """A function of the shared library at the path."""
     function = getattr(ctypes.CDLL(os.path.abspath(path)), name)
-    function.restype = shape(texts)._restype_
-    function.argtypes = shape(texts)._argtypes_
+    function.restype = shape(texts, rooms)._restype_
+    function.argtypes = shape(texts, rooms)._argtypes_
     return function
 
 
-def model_function(service, texts):
+def model_function(service, texts, rooms=0):
     """A service of the model as a function of the library's shape."""
+    codes = [WORDS] * texts + [BYTES] * rooms
+
     def function(*arguments):
         buffers = list(zip(arguments[0:-1:2], arguments[1::2]))
         found = [ctypes.string_at(*buffer) for buffer in buffers[:texts]]
-        tables = [read_words(*buffer) for buffer in buffers[texts:]]
-        numbers = service(*found, *tables)
-        for (address, _), words in zip(buffers[texts:], tables):
-            write_words(address, words)
-        write_words(arguments[-1], numbers)
-    return shape(texts)(function)
+        lent = [read_items(code, *buffer) for code, buffer in zip(codes, buffers[texts:])]
+        numbers = service(*found, *lent)
+        for code, (address, _), items in zip(codes, buffers[texts:], lent):
+            write_items(code, address, items)
+        write_items(WORDS, arguments[-1], numbers)
+    return shape(texts, rooms)(function)
 
 
-def read_words(address, count):
-    return array("I", ctypes.string_at(address, 4 * count)).tolist()
+def read_items(code, address, count):
+    return array(code, ctypes.string_at(address, array(code).itemsize * count)).tolist()
 
 
-def write_words(address, words):
-    ctypes.memmove(address, array("I", words).tobytes(), 4 * len(words))
+def write_items(code, address, items):
+    found = array(code, items).tobytes()
+    ctypes.memmove(address, found, len(found))
 
 
 # Buffers with guards.
@@ -63,13 +69,15 @@ def write_words(address, words):
 class Words:
     """Random words with guard words before and behind."""
 
+    code = WORDS
+
     def __init__(self, count, chance):
         self.count = count
-        self.memory = array("I", chance.randbytes(4 * (count + 2 * GUARD)))
+        self.memory = array(self.code, chance.randbytes(array(self.code).itemsize * (count + 2 * GUARD)))
         self.found = self.memory[:]
 
     def address(self):
-        return self.memory.buffer_info()[0] + 4 * GUARD
+        return self.memory.buffer_info()[0] + self.memory.itemsize * GUARD
 
     def words(self):
         return self.memory[GUARD:GUARD + self.count].tolist()
@@ -77,13 +85,19 @@ class Words:
     def expect(self, words):
         """Whether the words are these and the guards as found."""
         wanted = self.found[:]
-        wanted[GUARD:GUARD + self.count] = array("I", words)
+        wanted[GUARD:GUARD + self.count] = array(self.code, words)
         return self.memory == wanted
 
     def guards_touched(self):
         behind = GUARD + self.count
         return (self.memory[:GUARD] != self.found[:GUARD]
                 or self.memory[behind:] != self.found[behind:])
+
+
+class Bytes(Words):
+    """A buffer to write to: random bytes with guard bytes before and behind."""
+
+    code = BYTES
 
 
 class Text:
@@ -93,7 +107,7 @@ class Text:
         before = bytes(chance.choices(TEXT_GUARDS, k=GUARD))
         behind = bytes(chance.choices(TEXT_GUARDS, k=GUARD))
         self.count = len(text)
-        self.memory = array("B", before + text + behind)
+        self.memory = array(BYTES, before + text + behind)
         self.found = self.memory[:]
 
     def address(self):
@@ -138,21 +152,27 @@ def pair_lengths(needed, chance):
 
 # Comparing.
 
-def compare(function, service, texts, lengths, chance):
+def compare(function, service, texts, lengths, chance, rooms=()):
     """Runs the function and the model once; gives whether they agree."""
     buffers = [Text(text, chance) for text in texts]
-    tables = [Words(length, chance) for length in lengths]
+    lent = named_buffers(lengths, rooms, chance)
     answer = Words(ANSWER, chance)
-    wanted_tables = [table.words() for table in tables]
-    wanted = service(*texts, *wanted_tables)
-    function(*addresses(buffers + tables), answer.address())
+    wanted_words = {name: words.words() for name, words in lent.items()}
+    wanted = service(*texts, *wanted_words.values())
+    function(*addresses([*buffers, *lent.values()]), answer.address())
     differences = [] if answer.expect(wanted) else ["answer"]
-    for number, (buffer, table, words) in enumerate(zip(buffers, tables, wanted_tables), 1):
-        differences += [] if table.expect(words) else ["table %d" % number]
-        differences += [] if buffer.unchanged() else ["buffer of text %d" % number]
+    differences += [name for name, words in lent.items() if not words.expect(wanted_words[name])]
+    differences += ["buffer of text %d" % number for number, buffer in enumerate(buffers, 1) if not buffer.unchanged()]
     if differences:
-        report(texts, tables, answer, wanted, wanted_tables, differences)
+        report(texts, lent, answer, wanted, wanted_words, differences)
     return not differences
+
+
+def named_buffers(lengths, rooms, chance):
+    """Tables and buffers of these lengths, each with its name."""
+    found = {"table %d" % number: Words(length, chance) for number, length in enumerate(lengths, 1)}
+    found.update({"buffer %d" % number: Bytes(room, chance) for number, room in enumerate(rooms, 1)})
+    return found
 
 
 def addresses(buffers):
@@ -160,29 +180,29 @@ def addresses(buffers):
     return [word for buffer in buffers for word in (buffer.address(), buffer.count)]
 
 
-def report(texts, tables, answer, wanted, wanted_tables, differences):
+def report(texts, lent, answer, wanted, wanted_words, differences):
     for number, text in enumerate(texts, 1):
         print("text %d: " % number, text.hex())
-    print("tables: ", *[table.count for table in tables], "words")
+    print("lengths:", ", ".join("%s %d" % (name, words.count) for name, words in lent.items()))
     print("model:  ", *wanted)
     print("library:", *answer.words())
     print("differs:", ", ".join(differences))
     report_guards("answer", answer)
-    for number, (table, words) in enumerate(zip(tables, wanted_tables), 1):
-        report_guards("table %d" % number, table)
-        report_word("table %d" % number, words, table.words())
+    for name, words in lent.items():
+        report_guards(name, words)
+        report_word(name, wanted_words[name], words.words())
 
 
 def report_guards(name, words):
     if words.guards_touched():
-        print("guard words of the", name, "changed")
+        print("guards of the", name, "changed")
 
 
 def report_word(name, wanted, found):
     """The first word that differs."""
     for number, (want, got) in enumerate(zip(wanted, found)):
         if want != got:
-            print(name, "word", number, "model", want, "library", got)
+            print(name, "at", number, "model", want, "library", got)
             break
 
 

@@ -1,7 +1,8 @@
 /*
  * Calls the library as a C program does, and compares with answers and rows that are stated here.
  * Each call is made twice: with every buffer right behind a page that traps, and right before one. The words around a
- * table or an answer must stay as they were; a text stands in pages that may only be read, with more of it behind.
+ * table or an answer, and the bytes around a buffer that is written to, must stay as they were; a text stands in pages
+ * that may only be read, with more of it behind.
  */
 #define _DEFAULT_SOURCE
 #include <stdio.h>
@@ -97,7 +98,29 @@ static int guards_hold(const struct lent *lent) {
         && as_lent(lent->area, lent->words + lent->count, words + lent->area->bytes / sizeof *words);
 }
 
-static struct area text_areas[2], table_areas[2], answer_area;
+/* Bytes to be written, each byte of the area unlike its neighbours. */
+static uint8_t lent_byte(size_t i) {
+    return (uint8_t)(FILL + 7 * i);
+}
+
+static uint8_t *lend_bytes(const struct area *area, size_t count, enum side side) {
+    uint8_t *bytes = area->start;
+    for (size_t i = 0; i < area->bytes; i++) bytes[i] = lent_byte(i);
+    return part(area, count, side);
+}
+
+/* Whether a buffer holds what was written, and every other byte of its area is as it was lent. */
+static int bytes_hold(const struct area *area, const uint8_t *buffer, const char *written, size_t filled) {
+    const uint8_t *bytes = area->start;
+    size_t from = (size_t)(buffer - bytes);
+    for (size_t i = 0; i < area->bytes; i++) {
+        int inside = i >= from && i < from + filled;
+        if (bytes[i] != (inside ? (uint8_t)written[i - from] : lent_byte(i))) return 0;
+    }
+    return 1;
+}
+
+static struct area text_areas[2], table_areas[2], answer_area, buffer_area;
 
 /* Read: every beginning of a text, in tables of every small length. */
 
@@ -191,20 +214,19 @@ static void make_longest(char *text, uint32_t *rows) {
     text[LONGEST - 1] = ']';
 }
 
+static char longest[LONGEST + 2];
+static uint32_t longest_rows[LONG_ROWS * TELEPORT_ROW_WORDS];
+
 /* Read of a text and a table that fill whole pages, so that both ends of each touch a page that traps; of a byte more. */
 static void read_longest(void) {
-    static char text[LONGEST + 2];
-    static uint32_t rows[LONG_ROWS * TELEPORT_ROW_WORDS];
-    const struct stretch says = {0, TELEPORT_OK, 0, rows, sizeof rows / sizeof *rows}, too_long = REFUSED(0, TELEPORT_TOO_LONG, LONGEST);
-    make_longest(text, rows);
-    text_areas[0] = map_area(LONGEST);
-    table_areas[0] = map_area(sizeof rows);
-    read_with(text, LONGEST, &says, says.words, AT_START);
-    read_with(text, LONGEST, &says, says.words - 1, AT_END);
-    text[LONGEST] = ' ';
+    const struct stretch says = {0, TELEPORT_OK, 0, longest_rows, LONG_ROWS * TELEPORT_ROW_WORDS};
+    const struct stretch too_long = REFUSED(0, TELEPORT_TOO_LONG, LONGEST);
+    read_with(longest, LONGEST, &says, says.words, AT_START);
+    read_with(longest, LONGEST, &says, says.words - 1, AT_END);
+    longest[LONGEST] = ' ';
     text_areas[0] = map_area(LONGEST + 1);
-    read_with(text, LONGEST + 1, &too_long, says.words, AT_START);
-    read_with(text, LONGEST + 1, &too_long, says.words, AT_END);
+    read_with(longest, LONGEST + 1, &too_long, says.words, AT_START);
+    read_with(longest, LONGEST + 1, &too_long, says.words, AT_END);
 }
 
 /* Check and Compare. */
@@ -329,6 +351,73 @@ static void call_pair(const struct pair *pair) {
     }
 }
 
+/* Compact: buffers and tables of every small length. */
+
+struct writing {
+    struct text text;
+    const char *written;
+    uint32_t refusal[4]; /* of a text without rows */
+};
+
+static const struct writing writings[] = {
+    {{"{\"a\":[1,true]}", WORDS(8,0,14,1,5, 9,1,4,0,1, 7,5,13,2,3, 4,6,7,0,1, 3,8,12,0,1)}, "{\"a\":[1,true]}", {0}},
+    {{" { \"b\" : [ 1.0 , true ] , \"a\" : \"\\/\" } ", WORDS(8,1,38,2,7, 9,3,6,0,1, 7,9,23,2,3, 5,11,14,0,1, 3,17,21,0,1,
+        9,26,29,0,1, 6,32,36,0,1)}, "{\"b\":[1.0,true],\"a\":\"/\"}", {0}},
+    {{"{\"\\u0062\":null,\"a\" : false}", WORDS(8,0,27,2,5, 9,1,9,0,1, 1,10,14,0,1, 9,15,18,0,1, 2,21,26,0,1)},
+        "{\"b\":null,\"a\":false}", {0}},
+    {{"\"\\u001F\\u000a\\u0022\\u005C\\b\x7f\"", WORDS(6,0,29,0,1)}, "\"\\u001f\\n\\\"\\\\\\b\x7f\"", {0}},
+    {{"[ \"\\uD83d\\ude00\\u00E9\\u20ac\" ]", WORDS(7,0,30,1,2, 6,2,28,0,1)}, "[\"\xf0\x9f\x98\x80\xc3\xa9\xe2\x82\xac\"]", {0}},
+    {{"-0.5e+3 ", WORDS(5,0,7,0,1)}, "-0.5e+3", {0}},
+    {{"", NULL, 0}, "", {2, 1, 0, 0}},
+    {{"[1,]", NULL, 0}, "", {3, 1, 3, 0}},
+    {{"{\"a\":1,\"\\u0061\":2}", NULL, 0}, "", {6, 1, 14, 0}},
+};
+
+/* 02, L6: "after codes 1 to 8", room in the table too; "every refusal leaves the buffer untouched". */
+static void compact_with(const struct writing *says, size_t words, size_t room, enum side side) {
+    const struct text *text = &says->text;
+    size_t length = strlen(text->text), needed = strlen(says->written);
+    uint32_t rows = (uint32_t)(text->words / TELEPORT_ROW_WORDS), no_room[4] = {TELEPORT_NO_ROOM, 1, 0, rows};
+    uint32_t done[4] = {needed <= room ? TELEPORT_OK : TELEPORT_SHORT_BUFFER, 0, 0, (uint32_t)needed};
+    int short_of_room = lacks_room(text->words, words), writes = rows && !short_of_room && needed <= room;
+    const uint32_t *wanted = !rows ? says->refusal : short_of_room ? no_room : done;
+    const uint8_t *lent = lend_text(&text_areas[0], text->text, length, side);
+    uint32_t *table = lend_words(&table_areas[0], words, side), *answer = lend_words(&answer_area, 4, side);
+    uint8_t *buffer = lend_bytes(&buffer_area, room, side);
+    teleport_compact(lent, length, table, words, buffer, room, answer);
+    struct lent table_after = {&table_areas[0], table, words}, answer_after = {&answer_area, answer, 4};
+    expect(holds(&answer_after, wanted, 4), "the answer of Compact", text->text, length);
+    expect(guards_hold(&answer_after), "the words around the answer of Compact", text->text, length);
+    expect(holds(&table_after, text->rows, short_of_room ? 0 : text->words), "the table of Compact", text->text, length);
+    expect(guards_hold(&table_after), "the words around the table of Compact", text->text, length);
+    expect(bytes_hold(&buffer_area, buffer, says->written, writes ? needed : 0), "the buffer of Compact", text->text, length);
+}
+
+static void compact_text(const struct writing *says) {
+    for (size_t words = 0; words <= says->text.words + TELEPORT_ROW_WORDS; words++) {
+        for (size_t room = 0; room <= strlen(says->written) + 1; room++) {
+            compact_with(says, words, room, AT_START);
+            compact_with(says, words, room, AT_END);
+        }
+    }
+}
+
+/* The longest text, of which the space in front is left out, in buffers that fill whole pages or a byte less than is needed; a byte more. */
+static void compact_longest(void) {
+    const struct writing says = {{longest, longest_rows, LONG_ROWS * TELEPORT_ROW_WORDS}, longest + 1, {0}};
+    const struct writing too_long = {{longest, NULL, 0}, "", {TELEPORT_TOO_LONG, 1, LONGEST, 0}};
+    buffer_area = map_area(LONGEST);
+    compact_with(&says, says.text.words, LONGEST, AT_START);
+    compact_with(&says, says.text.words, LONGEST - 1, AT_END);
+    compact_with(&says, says.text.words, LONGEST - 2, AT_START);
+    compact_with(&says, says.text.words - 1, LONGEST, AT_END);
+    longest[LONGEST] = ' ';
+    text_areas[0] = map_area(LONGEST + 1);
+    compact_with(&too_long, says.text.words, LONGEST, AT_START);
+    longest[LONGEST] = 0;
+    text_areas[0] = map_area(LONGEST);
+}
+
 int main(void) {
     setvbuf(stdout, NULL, _IOLBF, BUFSIZ); /* what failed is seen before a trap ends the program */
     for (int i = 0; i < 2; i++) {
@@ -336,8 +425,14 @@ int main(void) {
         table_areas[i] = map_area(ROOM * sizeof(uint32_t));
     }
     answer_area = map_area(4 * sizeof(uint32_t));
+    buffer_area = map_area(ROOM);
     for (size_t i = 0; i < sizeof readings / sizeof *readings; i++) read_beginnings(&readings[i]);
     for (size_t i = 0; i < sizeof pairs / sizeof *pairs; i++) call_pair(&pairs[i]);
+    for (size_t i = 0; i < sizeof writings / sizeof *writings; i++) compact_text(&writings[i]);
+    make_longest(longest, longest_rows);
+    text_areas[0] = map_area(LONGEST);
+    table_areas[0] = map_area(sizeof longest_rows);
+    compact_longest();
     read_longest();
     printf("%lu passed, %lu failed\n", passed, failed);
     return failed != 0;

@@ -101,13 +101,23 @@ static void nest(struct text *text, const struct nesting *how, unsigned levels, 
 typedef void service(const uint8_t *, size_t, const uint8_t *, size_t, uint32_t *, size_t, uint32_t *, size_t, uint32_t *);
 
 struct call {
-    service *call; /* Check or Compare; NULL is Read of the first text */
+    service *call; /* Check, Compare or Compact; NULL is Read of the first text */
     const struct text *texts[2];
     uint32_t answer[4];
     uintptr_t frame;
 };
 
 static uint32_t tables[2][TABLE];
+
+/* Compact of the first text, in the shape of the others: its buffer has this much room. */
+static uint8_t buffer[TELEPORT_DOCUMENT_LIMIT];
+static size_t room;
+
+static void compact(const uint8_t *text, size_t length, const uint8_t *none, size_t no_length,
+                    uint32_t *table, size_t words, uint32_t *no_table, size_t no_words, uint32_t *answer) {
+    (void)none, (void)no_length, (void)no_table, (void)no_words;
+    teleport_compact(text, length, table, words, buffer, room, answer);
+}
 
 /* What the thread does. Its own frame is where the stack of the call begins. */
 static void *make_call(void *given) {
@@ -241,8 +251,32 @@ static void measure_compare(void) {
     measure("Compare, 24 arrays", teleport_compare, 0, 0, SHORT);
 }
 
+/* With a buffer of any length, what is written for the first text being so long. */
+static void measure_compact_with(const char *name, size_t room_lent, size_t needed, size_t more_than) {
+    room = room_lent;
+    measure(name, compact, room < needed ? TELEPORT_SHORT_BUFFER : TELEPORT_OK, (uint32_t)needed, more_than);
+}
+
+/* The brackets, names and escapes of Read's, written with room and measured without. */
+static void measure_compact(void) {
+    put(&first, "[]");
+    measure_compact_with("Compact, 2 bytes", 2, 2, SHORT);
+    wrap(&first, "[", "", "]", 32);
+    measure_compact_with("Compact, 32 brackets", LONG, 64, SHORT);
+    for (size_t lent = 0; lent <= LONG; lent += LONG) {
+        wrap(&first, "[{\"\\ud83d\\ude00\":", "\"\\ud83d\\ude00\"", "}]", 16);
+        pad(&first, LONG);
+        measure_compact_with("Compact, 65,536 bytes, arrays and objects by turns, escapes", lent, 16 * 11 + 6, LONG);
+        nest(&first, &objects, 32, 150, "0");
+        size_t needed = first.length;
+        pad(&first, LONG);
+        measure_compact_with("Compact, 65,536 bytes, 32 objects of 150 names", lent, needed, LONG);
+    }
+}
+
 int main(void) {
     measure_read();
+    measure_compact();
     measure_check();
     measure_schema();
     measure_compare();
