@@ -1,13 +1,18 @@
-# Builds the library from the proved crates, and installs it with its header: make && make install PREFIX=/usr/local
+# Builds the library and the programs from the proved crates, and installs them, with the header and the pages of the
+# manual: make && make install PREFIX=/usr/local
 PREFIX ?= /usr/local
 LIBRARY = target/lib
+PROGRAMS = target/bin
 VERSION = 0.1.0
 
-all: $(LIBRARY)/libteleport.a $(LIBRARY)/libteleport.so $(LIBRARY)/teleport.pc
+all: $(LIBRARY)/libteleport.a $(LIBRARY)/libteleport.so $(LIBRARY)/teleport.pc programs
 
-.PHONY: all install FORCE
+.PHONY: all programs install FORCE
 
-# rt knows what has changed.
+# rt knows what has changed; one of its commands runs at a time.
+programs: $(LIBRARY)/libteleport.a
+	rt check teleport teleport_tools
+
 $(LIBRARY)/libteleport.a: FORCE
 	rt staticlib teleport_c
 	mkdir -p $(LIBRARY)
@@ -21,7 +26,10 @@ $(LIBRARY)/teleport.pc: FORCE
 	printf '%s\n' 'Name: teleport' 'Description: JSON text, Teleport schemas' 'Version: $(VERSION)' 'Cflags: -I$(PREFIX)/include' 'Libs: -L$(PREFIX)/lib -lteleport' > $@
 
 install: all
-	install -d $(DESTDIR)$(PREFIX)/include $(DESTDIR)$(PREFIX)/lib/pkgconfig
+	install -d $(DESTDIR)$(PREFIX)/bin $(DESTDIR)$(PREFIX)/include $(DESTDIR)$(PREFIX)/lib/pkgconfig $(DESTDIR)$(PREFIX)/share/man/man1
+	install -m 755 $(PROGRAMS)/teleport $(DESTDIR)$(PREFIX)/bin/teleport
+	install -m 755 $(PROGRAMS)/teleport_tools $(DESTDIR)$(PREFIX)/bin/teleport-tools
+	install -m 644 man/teleport.1 man/teleport-tools.1 $(DESTDIR)$(PREFIX)/share/man/man1
 	install -m 644 include/teleport.h $(DESTDIR)$(PREFIX)/include
 	install -m 644 $(LIBRARY)/libteleport.a $(DESTDIR)$(PREFIX)/lib
 	install -m 755 $(LIBRARY)/libteleport.so $(DESTDIR)$(PREFIX)/lib

@@ -42,7 +42,7 @@ class Folder:
     def __init__(self, path, program):
         self.path = pathlib.Path(path)
         self.path.chmod(0o755)
-        self.program = shutil.copy(program, self.path / "teleport")
+        self.program = shutil.copy(program, self.path)
         os.chmod(self.program, 0o755)
         self.names = {}
 
@@ -76,7 +76,8 @@ class Folder:
         arguments, line = case
         found = self.run(arguments, pieces, user or {})
         shown = " ".join(ascii(argument)[:60] for argument in arguments)
-        return "teleport %s: wanted %r, found %r" % (shown, line, found), found == (line.encode() + b"\n", b"", 0)
+        name = os.path.basename(self.program)
+        return "%s %s: wanted %r, found %r" % (name, shown, line, found), found == (line.encode() + b"\n", b"", 0)
 
 
 def line_of(answer):
@@ -269,10 +270,15 @@ def generated_cases(folder):
 
 # Results: a description, and whether it holds.
 
+def bound_user():
+    """A user whom the rights of a file bind, as options of a process: root may read and write every file."""
+    return {"user": NOBODY, "group": NOBODY, "extra_groups": []} if os.geteuid() == 0 else {}
+
+
 def unreadable_results(folder):
-    """A file that may not be read, for a user that this binds: root may read every file."""
+    """A file that may not be read."""
     name = folder.write("unreadable", JSON, mode=0)
-    user = {"user": NOBODY, "group": NOBODY, "extra_groups": []} if os.geteuid() == 0 else {}
+    user = bound_user()
 
     def may_read(name):
         return subprocess.run(["test", "-r", name], cwd=folder.path, **user).returncode == 0

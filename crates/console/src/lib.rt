@@ -2,9 +2,11 @@
 mod commands;
 mod files;
 mod lines;
+mod saving;
 
 pub use commands::asks;
 pub use files::Loaded;
 pub use files::load;
 pub use lines::answer;
 pub use lines::no_file;
+pub use saving::save;

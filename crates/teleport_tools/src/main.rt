@@ -1,0 +1,46 @@
+// The second program: the services of 02, a command for each. The first line is the four numbers of
+// the answer. A file is written only with the answer that says so, whole, and after all files that
+// are read were loaded; where that cannot be done, or the arguments are others, the line is `no file`.
+use console::Loaded;
+use console::answer;
+use console::asks;
+use console::load;
+use console::no_file;
+use console::save;
+
+// The limit of a document.
+const LIMIT: usize = 65536;
+
+// One byte over the limit, so that a longer file gives the service a text over it.
+const TEXT: usize = 65537;
+
+// Room for every document: rows number at most the bytes, and have five words each.
+const TABLE: usize = 327680;
+
+// `compact FILE OUT`. What is written is never longer than the text, so that the buffer has room.
+fn compact() {
+    let mut text = [0u8; TEXT];
+    let Loaded::Bytes(n) = load(2, &mut text) else {
+        no_file();
+        return;
+    };
+    let mut table = [0u32; TABLE];
+    let mut buffer = [0u8; LIMIT];
+    let a = writer::compact(&text[..n], &mut table, &mut buffer);
+    if a.code == 0 {
+        let length = a.other as usize;
+        if !save(3, &buffer[..length]) {
+            no_file();
+            return;
+        }
+    }
+    answer(a);
+}
+
+fn main() {
+    if asks(b"compact", 4) {
+        compact();
+    } else {
+        no_file();
+    }
+}
