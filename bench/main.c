@@ -1,9 +1,9 @@
 /*
  * Measures the library beside plain C, in the same buffers, which are not cleared between calls.
  *
- *     bench [--quick]                      all workloads
- *     bench --only NAME [COUNT [plain]]    so many calls of one in its largest size, for a profiler
- *     bench --agree COUNT                  holds plain C to the library on so many random texts
+ *     bench [--quick]                              all workloads
+ *     bench --only NAME [COUNT [plain|compact]]    so many calls of one in its largest size, for a profiler
+ *     bench --agree COUNT                          holds plain C to the library on so many random texts
  */
 #define _POSIX_C_SOURCE 199309L
 #include <stdio.h>
@@ -18,6 +18,7 @@
 enum { TABLE_WORDS = TELEPORT_ROW_WORDS * TELEPORT_DOCUMENT_LIMIT };
 
 static uint32_t table1[TABLE_WORDS], table2[TABLE_WORDS];
+static uint8_t buffer[TELEPORT_DOCUMENT_LIMIT];
 
 /* Documents, or new schemas, in the smaller and the larger size, and the other schema. Calls take the variants of a text
  * by turns: the branches of a single text that is short enough are learnt by heart, and no stranger's file is. */
@@ -32,9 +33,9 @@ static const int most_rounds = 60;
 static const double long_seconds = 0.1;
 
 /* A figure beyond its bound is marked. */
-static const double twice_bound = 2.2, check_bound = 2.5, no_bound = 1e9;
+static const double twice_bound = 2.2, check_bound = 2.5, writing_bound = 1.0, no_bound = 1e9;
 
-enum service { READ, PLAIN_READ, CHECK, COMPARE };
+enum service { READ, PLAIN_READ, CHECK, COMPARE, COMPACT };
 
 static void call(enum service service, const struct text *a, const struct text *b, uint32_t *answer) {
     switch (service) {
@@ -46,6 +47,7 @@ static void call(enum service service, const struct text *a, const struct text *
     case COMPARE:
         teleport_compare(a->bytes, a->length, b->bytes, b->length, table1, TABLE_WORDS, table2, TABLE_WORDS, answer);
         break;
+    case COMPACT: teleport_compact(a->bytes, a->length, table1, TABLE_WORDS, buffer, a->length, answer); break;
     }
 }
 
@@ -184,6 +186,41 @@ static void read_all(void) {
         if (read_inputs[i].small) read_small(&read_inputs[i]);
 }
 
+/* Compact beside Read, with a buffer of the text's length. Writing alone is what Compact takes beyond Read. */
+static void require_written(const struct text *text, const char *name) {
+    static struct text written;
+    uint32_t answer[4], again[4];
+    call(COMPACT, text, NULL, answer);
+    require(answer[TELEPORT_CODE] == TELEPORT_OK, "code 0 of Compact", name);
+    written.length = answer[TELEPORT_OTHER];
+    memcpy(written.bytes, buffer, written.length);
+    call(COMPACT, &written, NULL, again);
+    require(memcmp(answer, again, sizeof answer) == 0, "the same answer for what was written", name);
+    require(memcmp(buffer, written.bytes, written.length) == 0, "the same bytes for what was written", name);
+}
+
+static void compact_of(const struct read_input *input) {
+    make_variants(texts[0], input->by, TELEPORT_DOCUMENT_LIMIT, input->name);
+    for (int i = 0; i < VARIANTS; i++) require_written(&texts[0][i], input->name);
+    struct timed timed[] = {
+        { .service = COMPACT, .first = texts[0], .variants = VARIANTS },
+        { .service = READ, .first = texts[0], .variants = VARIANTS },
+    };
+    measure(timed, 2);
+    double compact = timed[0].best, read = timed[1].best;
+    print_speed(input->name, length_of(timed), compact);
+    print_bounded(compact / read, no_bound, " ");
+    print_bounded((compact - read) / read, strcmp(input->name, "season") ? no_bound : writing_bound, "");
+    putchar('\n');
+    fflush(stdout);
+}
+
+static void compact_all(void) {
+    printf("\n%-15s %8s %10s %9s %8s %10s\n", "Compact", "bytes", "MB/s", "ns/byte", "/ Read", "writing");
+    for (size_t i = 0; i < read_input_count; i++)
+        if (!read_inputs[i].small) compact_of(&read_inputs[i]);
+}
+
 /* Check beside Read of the document, Compare beside Read of both schemas. */
 enum { PAIR, LIBRARY_FIRST, PLAIN_FIRST, LIBRARY_SECOND, PLAIN_SECOND, PER_PAIR };
 
@@ -234,13 +271,13 @@ static void pair_all(void) {
 }
 
 /* One workload, in its largest size. */
-static int only(const char *name, unsigned long count, int plain) {
+static int only(const char *name, unsigned long count, enum service service) {
     struct timed timed[PER_PAIR];
     for (size_t i = 0; i < read_input_count; i++) {
         const struct read_input *input = &read_inputs[i];
         if (strcmp(input->name, name)) continue;
         make(texts[0], input->by, input->small ? input->small : TELEPORT_DOCUMENT_LIMIT, 0);
-        timed[0] = (struct timed){ .service = plain ? PLAIN_READ : READ, .first = texts[0], .variants = 1 };
+        timed[0] = (struct timed){ .service = service, .first = texts[0], .variants = 1 };
         round_of(timed, count);
         return 0;
     }
@@ -254,20 +291,26 @@ static int only(const char *name, unsigned long count, int plain) {
     return 1;
 }
 
+static enum service service_of(const char *word) {
+    return strcmp(word, "plain") == 0 ? PLAIN_READ : strcmp(word, "compact") == 0 ? COMPACT : READ;
+}
+
 int main(int argc, char **argv) {
     if (argc >= 3 && strcmp(argv[1], "--only") == 0)
-        return only(argv[2], argc >= 4 ? strtoul(argv[3], NULL, 10) : 1, argc >= 5 && strcmp(argv[4], "plain") == 0);
+        return only(argv[2], argc >= 4 ? strtoul(argv[3], NULL, 10) : 1, service_of(argc >= 5 ? argv[4] : ""));
     if (argc == 3 && strcmp(argv[1], "--agree") == 0) return agree(strtoul(argv[2], NULL, 10));
     if (argc == 2 && strcmp(argv[1], "--quick") == 0) {
         round_seconds = 0.005;
         still_rounds = 2;
     } else if (argc != 1) {
-        printf("bench [--quick] | --only NAME [COUNT [plain]] | --agree COUNT\n");
+        printf("bench [--quick] | --only NAME [COUNT [plain|compact]] | --agree COUNT\n");
         return 1;
     }
     read_all();
+    compact_all();
     pair_all();
     puts("\nratio: the library's speed to that of plain C. / Read, / plain: time to that of reading the document, for\n"
-         "Compare both schemas. twice: time to that of half the bytes. !: over 2.2 (twice), over 2.5 (/ Read of a season).");
+         "Compare both schemas. twice: time to that of half the bytes. writing: time of Compact less that of Read, to that\n"
+         "of Read. !: over 2.2 (twice), over 2.5 (/ Read of a season), over 1.0 (writing of a season).");
     return 0;
 }
