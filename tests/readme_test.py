@@ -3,7 +3,7 @@
 
     readme_test.py
 
-It needs target/bin/teleport and what `make` builds. The examples are compiled as they
+It needs what `make` builds. The examples are compiled as they
 are written, by the commands of the page, against a copy that its `make install` puts
 under a prefix of its own. The page's second command is the gate, which runs this test,
 and is not run here.
@@ -91,6 +91,14 @@ def install_run(text, prefix):
     return command, (status, printed if status else ""), (0, "")
 
 
+def installed_runs(prefix):
+    """The programs and their pages, where `make install` puts them."""
+    for name in ["teleport", "teleport-tools"]:
+        yield f"{name} is installed", run(str(prefix / "bin" / name)), ("no file\n", 0)
+        page = prefix / "share" / "man" / "man1" / f"{name}.1"
+        yield f"the page of {name} is installed", page.exists(), True
+
+
 def example_runs(text, folder, prefix):
     environment = dict(os.environ, PKG_CONFIG_PATH=str(prefix / "lib" / "pkgconfig"), LD_LIBRARY_PATH=str(prefix / "lib"))
     yield "the examples that are found", len(EXAMPLES), len(re.findall(r"(?m)^prints `", text))
@@ -110,6 +118,7 @@ def runs(text, folder):
         yield first_command_run(text, tree)
         yield from command_runs(text)
         yield install_run(text, prefix)
+        yield from installed_runs(prefix)
         yield from example_runs(text, examples, prefix)
     except Missing as missing:
         yield f"README.md has {missing}", False, True
