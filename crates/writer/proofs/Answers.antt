@@ -45,6 +45,10 @@ module _ (w b : ℕ) (s : List ℕ) where
   unfolding answerBy
   compacted-answer c = rw (c .reads, le-leb _ _ (c .rows), le-leb _ _ (c .fits))
 
+  -- with 0, the length that is given lies within the buffer
+  pub compact-fits : compactAnswer w b s .code ≡ 0 → compactAnswer w b s .other ≤ b
+  compact-fits h = let c = compacted h in rw (compacted-answer c) (c .fits)
+
 module _ (w : ℕ) (buffer s : List ℕ) (c : Compacted w (length buffer) s) where
   pub compacted-buffer : compactBuffer w buffer s ≡ over (spelled s (c .node)) buffer
   unfolding bufferBy

@@ -1,18 +1,21 @@
 -- `teleport_tools::compact` is safe and ends. What `load` ensures of its answer puts the text within its buffer, and what Compact ensures of its own the length.
 use Prim.Native.Nat.{_≤_}
-use mathlib.Core.Path.{_≡_, sym}
+use mathlib.Core.Path.{_≡_, sym, ap, _∙_}
 use native.Mathlib.Omega.{arith}
 use lib.ListN.{length}
 use lib.Seq.{length-take-le}
 use borrow.Author.Needs.{needs}
-use Rattle.teleport_tools.proofs.Fits.{compact-fits}
+use Rattle.reader.specs.declared.answers.Answer.{Answer}
+use Rattle.writer.proofs.Answers.{compact-fits}
 use Rattle.teleport_tools.proofs.compact.Statement.{statement}
 use Rattle.teleport_tools.proofs.compact.Tie as tie
 
 -- the length that Compact gives with 0
 module _ (c : tie.After-struct-known2) where
   fits : c .before .before .before .before .before .compact .result .other ≤ 65536
-  fits = compact-fits _ _ _ (c .before .before .before .before .before .compact .ensures .0) (c .before .if1 .taken)
+  fits =
+      let e = c .before .before .before .before .before .compact .ensures .0 in
+      rw e (compact-fits _ _ _ (sym (ap (λ (a : Answer). a .code) e) ∙ c .before .if1 .taken))
 
   whole : length (c .before .before .before .before .before .compact .last .1 .1 .0) ≡ 65536
   whole = search needs
