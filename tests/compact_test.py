@@ -38,16 +38,16 @@ MARK = "\ue000number:"
 NUMBER = re.compile('"' + MARK + '([^"]*)"')
 
 
-def marked(spelled):
-    return MARK + spelled
-
-
 def json_written(text):
-    """What the json module writes for a well-formed text; None where a string has the mark."""
+    """What the json module writes for a well-formed text; None where a string has the mark too."""
+    numbers = []
+
+    def marked(spelled):
+        numbers.append(spelled)
+        return MARK + spelled
     value = json.loads(text.decode(), parse_int=marked, parse_float=marked)
     written = json.dumps(value, ensure_ascii=False, separators=(",", ":"))
-    unmarked, numbers = NUMBER.subn(r"\1", written)
-    return unmarked.encode() if numbers == written.count(MARK) else None
+    return NUMBER.sub(r"\1", written).encode() if written.count(MARK) == len(numbers) else None
 
 
 class Tester:
