@@ -5,8 +5,8 @@
 // the file meets the old bytes or the new ones, also where the disk is full, the program is stopped,
 // or the file is the one that was read.
 //
-// What else may have the name cannot be replaced so, and is no file: a folder, a device, a pipe, and
-// a link, which would be cut off from what it leads to.
+// What else may have the name cannot be replaced so, and is no file: a folder, a character device, a
+// pipe, and a link, which would be cut off from what it leads to.
 ghost use Rattle.io.specs.Counts.{Counts};
 use libc::PATH_MAX;
 
@@ -56,7 +56,8 @@ fn is_link(path: [u8; PATH_MAX]) -> bool {
     libc::readlink(&ended, &mut target) >= 0
 }
 
-// Whether a path names a file that may be written. A device or a pipe has nothing that can be synced.
+// Whether a path names a file that may be written. A character device or a pipe has nothing that can
+// be synced.
 fn is_writable(path: &[u8]) -> bool {
     let fd = os::open_update(path);
     if fd < 0 {

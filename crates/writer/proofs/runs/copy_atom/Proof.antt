@@ -17,6 +17,13 @@ Inv text at out₀ i₀ out i = Copying isAtom text at out₀ i out
 abbrev μ : tie.MeasureT-loop
 μ text at out₀ i₀ out i = length text - i
 
+-- the loop behind a byte of the run, and the entry
+abbrev turn : tie.Else1 Inv μ → tie.At-loop Inv μ
+turn c = c .before .before .before .before
+
+abbrev start : tie.At-loop Inv μ → tie.Start Inv μ
+start l = l .before .before .before
+
 returns : tie.Need-returns Inv μ
 returns c =
     let g = c .before .before .before .before .loop .inv in
@@ -27,12 +34,12 @@ copy-atom-spec = tie.close (tie.spec Inv μ
     (λ c. copying-none isAtom _ _ _)  -- loop-holds
     (λ c. omega arith)  -- text[i]
     (λ c κs. search needs)  -- is-atom-requires
-    (λ c. copying-length isAtom _ _ _ (c .before .before .before .before .before .before .before .pre) (c .before .before .before .before .loop .inv))  -- same-length
+    (λ c. copying-length isAtom _ _ _ (start (c .before .before .before .before) .pre) (c .before .before .before .before .loop .inv))  -- same-length
     returns
-    (λ c. omega (arith, c .before .before .before .before .loop .inv .ahead))  -- i - at
-    (λ c. copying-room isAtom _ _ _ (c .before .before .before .before .before .before .before .pre) (c .before .before .before .before .loop .inv) (c .before .before .before .loop-test .taken) (sym (c .before .is-atom .ensures) ∙ not-false _ (c .if1 .left)))  -- out[i - at]
+    (λ c. omega (arith, turn c .loop .inv .ahead))  -- i - at
+    (λ c. copying-room isAtom _ _ _ (start (turn c) .pre) (turn c .loop .inv) (c .before .before .before .loop-test .taken) (sym (c .before .is-atom .ensures) ∙ not-false _ (c .if1 .left)))  -- out[i - at]
     (λ c. omega arith)  -- i + 1
     (λ c. omega arith)  -- loop-less
-    (λ c. copying-next isAtom _ _ _ (c .before .before .before .before .before .before .before .pre) (c .before .before .before .before .loop .inv) (c .before .before .before .loop-test .taken) (sym (c .before .is-atom .ensures) ∙ not-false _ (c .if1 .left)))  -- loop-again
-    (λ c. copying-length isAtom _ _ _ (c .before .before .before .before .pre) (c .before .loop .inv))  -- same-length-2
+    (λ c. copying-next isAtom _ _ _ (start (turn c) .pre) (turn c .loop .inv) (c .before .before .before .loop-test .taken) (sym (c .before .is-atom .ensures) ∙ not-false _ (c .if1 .left)))  -- loop-again
+    (λ c. copying-length isAtom _ _ _ (start (c .before) .pre) (c .before .loop .inv))  -- same-length-2
     (λ c. copying-done isAtom _ _ _ (c .before .loop .inv) (run-end isAtom _ _ (c .loop-test .left))))  -- the text ended
