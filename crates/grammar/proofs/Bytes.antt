@@ -1,22 +1,23 @@
 -- A written text is made of bytes.
 use Prim.Native.Nat.{ℕ, zero, suc, _<_}
-use mathlib.Core.Path.{_≡_, refl, sym, subst}
+use mathlib.Core.Path.{_≡_, refl}
 use mathlib.Core.Logic.{inl, inr, ⊎-elim}
-use mathlib.Core.Bool.{Bool, true, false, _&&_, _||_}
+use mathlib.Core.Bool.{Bool, true, false, _||_}
 use mathlib.Core.List.{List, [], _∷_, _++_}
 use native.Mathlib.Omega.{arith}
 use lib.Dec.{eqb, leb, ltb}
 use borrow.Author.Tests.{eqb-true, leb-true, ltb-true, lt-ltb}
-use Rattle.model.specs.Text.{text, all, same}
+use Rattle.model.specs.Text.{text, all}
 use Rattle.model.specs.Value.{Value, null, boolean, number, string, array, object, vnil, Members, mnil}
-use Rattle.model.specs.Value.{isDigit, isDigits, isInt, isFraction, isPower, isExponent, IsNumber}
-use Rattle.model.proofs.Basics.{and-ways, or-true, same-eq}
+use Rattle.model.specs.Value.{isDigit, IsNumber}
+use Rattle.model.proofs.Basics.{and-ways, or-true}
 use Rattle.grammar.specs.Utf8.{IsUtf8, utf8-1, utf8-2, utf8-3, utf8-4}
 use Rattle.grammar.specs.Written.{Language, IsSpace, IsHexDigit, decimal, upper, lower, IsHex, hex, IsChar, unescaped, short, unicode, surrogates}
 use Rattle.grammar.specs.Written.{IsShort, quotation-mark, reverse-solidus, solidus, backspace, form-feed, line-feed, carriage-return, tab}
 use Rattle.grammar.specs.Written.{IsChars, no-char, char, IsString, IsLeaf}
 use Rattle.grammar.proofs.Trimmed.{TrimmedSeries, first-item, next-item, TrimmedBracketed, no-items, some-items}
 use Rattle.grammar.proofs.Trimmed.{TrimmedElement, TrimmedMember, TrimmedValue, TrimmedText}
+use Rattle.grammar.proofs.NumberBytes.{number-all}
 use Rattle.grammar.proofs.Utf8.{three-bits, four-bits}
 
 abbrev pub AreBytes : List ℕ → Type 0
@@ -99,41 +100,11 @@ string-bytes h = rw (h .spelled) (cons 0x22 (omega arith) (append (chars-bytes (
 
 -- ---- numbers
 
-digit-is : (c : ℕ) → isDigit c ≡ true → c < 256
-digit-is c t = and-ways (leb 0x30 c) (leb c 0x39) t (λ _ m. omega (arith, leb-true c 0x39 m))
-
-digits-bytes : (w : List ℕ) → isDigits w ≡ true → Bytes w
-digits-bytes [] h = nil
-digits-bytes (c ∷ w) h = tested isDigit digit-is (c ∷ w) h
-
-int-bytes : (w : List ℕ) → isInt w ≡ true → Bytes w
-int-bytes [] h = nil
-int-bytes (c ∷ w) h =
-    ⊎-elim (λ t. subst Bytes (sym (same-eq (c ∷ w) (text "0") t)) (written (text "0") refl))
-    (λ t. and-ways (leb 0x31 c && leb c 0x39) (all isDigit w) t
-    (λ u v. and-ways (leb 0x31 c) (leb c 0x39) u (λ _ m. cons c (omega (arith, leb-true c 0x39 m)) (tested isDigit digit-is w v))))
-    (or-true (same (c ∷ w) (text "0")) (leb 0x31 c && leb c 0x39 && all isDigit w) h)
-
-fraction-bytes : (w : List ℕ) → isFraction w ≡ true → Bytes w
-fraction-bytes [] h = nil
-fraction-bytes (c ∷ w) h = and-ways (eqb c 0x2E) (isDigits w) h (λ t u. cons c (omega (arith, eqb-true c 0x2E t)) (digits-bytes w u))
-
-power-bytes : (w : List ℕ) → isPower w ≡ true → Bytes w
-power-bytes [] h = nil
-power-bytes (c ∷ w) h =
-    ⊎-elim (λ t. digits-bytes (c ∷ w) t)
-    (λ t. and-ways (eqb c 0x2B || eqb c 0x2D) (isDigits w) t (λ u v. cons c (either c 0x2B 0x2D (omega arith) (omega arith) u) (digits-bytes w v)))
-    (or-true (isDigits (c ∷ w)) ((eqb c 0x2B || eqb c 0x2D) && isDigits w) h)
-
-exponent-bytes : (w : List ℕ) → isExponent w ≡ true → Bytes w
-exponent-bytes [] h = nil
-exponent-bytes (c ∷ w) h = and-ways (eqb c 0x45 || eqb c 0x65) (isPower w) h (λ t u. cons c (either c 0x45 0x65 (omega arith) (omega arith) t) (power-bytes w u))
+digit-is : (c : ℕ) → isDigit c ≡ true → ltb c 256 ≡ true
+digit-is c t = and-ways (leb 0x30 c) (leb c 0x39) t (λ _ m. lt-ltb c 256 (omega (arith, leb-true c 0x39 m)))
 
 number-bytes : {w : List ℕ} → IsNumber w → Bytes w
-number-bytes h =
-    let minus : Bytes (h .minus) = ⊎-elim (λ e. rw e nil) (λ e. rw e (written (text "-") refl)) (h .is-minus) in
-    let rest = append (fraction-bytes (h .fraction) (h .is-fraction)) (exponent-bytes (h .exponent) (h .is-exponent)) in
-    rw (h .spelled) (append minus (append (int-bytes (h .int) (h .is-int)) rest))
+number-bytes {w} h = written w (number-all (λ b. ltb b 256) digit-is refl refl refl refl refl h)
 
 -- ---- values
 

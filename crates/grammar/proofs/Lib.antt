@@ -18,6 +18,7 @@ pub mod Values
 pub mod Texts
 pub mod Local
 pub mod LocalTexts
+pub mod NumberBytes
 pub mod Bytes
 pub mod Places
 pub mod ReadAnswers

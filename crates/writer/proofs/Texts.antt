@@ -1,17 +1,17 @@
 -- Turns: bytes that are written as others wherever they stand. A text of the written grammar turns into the spelling of its value, which is no longer.
 use Prim.Native.Nat.{ℕ, zero, suc, _+_, _≤_, _<_}
 use mathlib.Core.Path.{_≡_, refl, sym, _∙_, subst}
-use mathlib.Core.Logic.{inl, inr, ⊎-elim}
-use mathlib.Core.Bool.{Bool, true, false, _&&_, _||_}
+use mathlib.Core.Logic.{inl, inr}
+use mathlib.Core.Bool.{Bool, true, false, _||_}
 use mathlib.Core.List.{List, [], _∷_, _++_, append-assoc, append-nil}
 use native.Mathlib.Omega.{arith}
 use lib.ListN.{length, length-append}
-use lib.Dec.{eqb, leb, ltb}
-use borrow.Author.Tests.{eqb-true, leb-true, ltb-true, ne-eqb}
-use Rattle.model.specs.Text.{text, all, same}
+use lib.Dec.{eqb, ltb}
+use borrow.Author.Tests.{ltb-true, lt-ltb, ne-eqb}
+use Rattle.model.specs.Text.{text, all}
 use Rattle.model.specs.Value.{Value, null, boolean, number, string, array, object}
-use Rattle.model.specs.Value.{isDigit, isDigits, isInt, isFraction, isPower, isExponent, IsNumber}
-use Rattle.model.proofs.Basics.{and-ways, or-true, same-eq}
+use Rattle.model.specs.Value.{isDigit, IsNumber}
+use Rattle.model.proofs.Basics.{and-ways}
 use Rattle.chars.specs.Bytes.{byteAt}
 use Rattle.chars.specs.Parse.{parsed}
 use Rattle.chars.specs.Space.{isSpace}
@@ -26,6 +26,7 @@ use Rattle.grammar.specs.Written.{values, IsArray, is-array, Member, IsMember, 
 use Rattle.grammar.proofs.Pieces.{At, at-first, at-second, at-behind}
 use Rattle.grammar.proofs.Strings.{string-reads}
 use Rattle.grammar.proofs.Numbers.{digit-bounds}
+use Rattle.grammar.proofs.NumberBytes.{number-all}
 use Rattle.grammar.proofs.Theorems.{reads-written}
 use Rattle.writer.specs.Spell.{spellString, spell, spellValues, spellMembers}
 use Rattle.writer.specs.Compact.{spelled}
@@ -96,46 +97,11 @@ turns-string {w} {vs} h = record {
 
 -- ---- numbers
 
--- one of two bytes
-either : (b j k : ℕ) → 0x22 < j → 0x22 < k → eqb b j || eqb b k ≡ true → 0x22 < b
-either b j k l m h = ⊎-elim (λ t. omega (arith, eqb-true b j t)) (λ t. omega (arith, eqb-true b k t)) (or-true (eqb b j) (eqb b k) h)
-
-all-digits : (w : List ℕ) → all isDigit w ≡ true → Turns w w
-all-digits w h = turns-tested isDigit (λ b t. omega (arith, digit-bounds b t)) w h
-
-turns-digits : (w : List ℕ) → isDigits w ≡ true → Turns w w
-turns-digits [] h = turns-none
-turns-digits (c ∷ w) h = all-digits (c ∷ w) h
-
-turns-int : (w : List ℕ) → isInt w ≡ true → Turns w w
-turns-int [] h = turns-none
-turns-int (c ∷ w) h =
-    ⊎-elim (λ t. rw (same-eq (c ∷ w) (text "0") t) (turns-text (text "0") refl))
-    (λ t. and-ways (leb 0x31 c && leb c 0x39) (all isDigit w) t
-    (λ u v. and-ways (leb 0x31 c) (leb c 0x39) u (λ l _. turns-more c (omega (arith, leb-true 0x31 c l)) (all-digits w v))))
-    (or-true (same (c ∷ w) (text "0")) (leb 0x31 c && leb c 0x39 && all isDigit w) h)
-
-turns-fraction : (w : List ℕ) → isFraction w ≡ true → Turns w w
-turns-fraction [] h = turns-none
-turns-fraction (c ∷ w) h = and-ways (eqb c 0x2E) (isDigits w) h (λ t u. turns-more c (omega (arith, eqb-true c 0x2E t)) (turns-digits w u))
-
-turns-power : (w : List ℕ) → isPower w ≡ true → Turns w w
-turns-power [] h = turns-none
-turns-power (c ∷ w) h =
-    ⊎-elim (turns-digits (c ∷ w))
-    (λ t. and-ways (eqb c 0x2B || eqb c 0x2D) (isDigits w) t (λ u v. turns-more c (either c 0x2B 0x2D (omega arith) (omega arith) u) (turns-digits w v)))
-    (or-true (isDigits (c ∷ w)) ((eqb c 0x2B || eqb c 0x2D) && isDigits w) h)
-
-turns-exponent : (w : List ℕ) → isExponent w ≡ true → Turns w w
-turns-exponent [] h = turns-none
-turns-exponent (c ∷ w) h =
-    and-ways (eqb c 0x45 || eqb c 0x65) (isPower w) h (λ t u. turns-more c (either c 0x45 0x65 (omega arith) (omega arith) t) (turns-power w u))
+digit-is : (b : ℕ) → isDigit b ≡ true → ltb 0x22 b ≡ true
+digit-is b t = lt-ltb 0x22 b (omega (arith, digit-bounds b t))
 
 turns-number : {w : List ℕ} → IsNumber w → Turns w w
-turns-number h =
-    let minus : Turns (h .minus) (h .minus) = ⊎-elim (λ e. rw e turns-none) (λ e. rw e (turns-text (text "-") refl)) (h .is-minus) in
-    rw (h .spelled) (turns-join minus (turns-join (turns-int (h .int) (h .is-int))
-    (turns-join (turns-fraction (h .fraction) (h .is-fraction)) (turns-exponent (h .exponent) (h .is-exponent)))))
+turns-number {w} h = turns-text w (number-all (ltb 0x22) digit-is refl refl refl refl refl h)
 
 -- ---- what stands in brackets
 
