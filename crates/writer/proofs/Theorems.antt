@@ -80,7 +80,7 @@ module _ (bytes depth : ℕ) (s : List ℕ) (n : Node) (e : ℕ) (q : readText b
       spell-reads bytes depth (valueOf s n) (read-json bytes depth s n e q) (text-depth depth s (valueOf s n) (reads-written bytes depth s n e q))
       (omega (arith, spelled-short bytes depth s n e q, read-short bytes depth s n e q))
 
-  -- "Writing what was written changes nothing."
+  -- and is spelled the same
   pub spelled-again : (m : Node) (f : ℕ) → readText bytes depth (spelled s n) ≡ parsed m f → spelled (spelled s n) m ≡ spelled s n
   spelled-again m f r =
       let x = spelled-reads in
@@ -92,7 +92,7 @@ module _ (bytes depth : ℕ) (s : List ℕ) (n : Node) (e : ℕ) (q : readText b
 pub compact-room : (t b : ℕ) (s : List ℕ) → length s ≤ b → compactAnswer t b s .code ≡ 60 → ⊥
 compact-room t b s l = no-short t b s (λ n e q. omega (arith, spelled-short 65536 32 s n e q))
 
--- with the same table and in the same buffer, it gives the same answer and leaves the buffer as it is
+-- "Writing what was written changes nothing.": with the same table and in the same buffer, it gives the same answer and leaves the buffer as it is
 pub compact-again : (w : ℕ) (buffer s : List ℕ) → compactAnswer w (length buffer) s .code ≡ 0
     → (compactAnswer w (length (compactBuffer w buffer s)) (written w buffer s) ≡ compactAnswer w (length buffer) s)
     × (compactBuffer w (compactBuffer w buffer s) (written w buffer s) ≡ compactBuffer w buffer s)
