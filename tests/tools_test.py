@@ -118,16 +118,16 @@ def output_results(tools):
 
 
 def rights_results(tools):
-    """A file that is written has the rights of a new one."""
-    for old in [None, 0o600, 0o666]:
+    """A file that is replaced keeps who may do what with it; a new one has the rights that the process gives to new files."""
+    umask = os.umask(0)
+    os.umask(umask)
+    for old, new in [(None, 0o666 & ~umask), (0o600, 0o600), (0o644, 0o644), (0o755, 0o755), (0o666, 0o666), (0o4755, 0o755)]:
         if old is not None:
             tools.write("out", OLD, mode=old)
-        tools.result((["compact", tools.file(FILE), "out"], DONE))
+        yield tools.result((["compact", tools.file(FILE), "out"], DONE))
         mode = stat.S_IMODE(os.lstat(tools.path / "out").st_mode)
         os.unlink(tools.path / "out")
-        umask = os.umask(0)
-        os.umask(umask)
-        yield "the rights of a file that was %s: %o" % (old, mode), mode == 0o666 & ~umask
+        yield "the rights of a %s: %o" % ("new file" if old is None else "file that had %o" % old, mode), mode == new
 
 
 def no_output_results(tools):

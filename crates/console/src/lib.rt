@@ -2,6 +2,7 @@
 mod commands;
 mod files;
 mod lines;
+mod modes;
 mod saving;
 
 pub use commands::asks;

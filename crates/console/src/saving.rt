@@ -1,13 +1,16 @@
 // A file that an argument names, written whole or not at all.
 //
 // A name that is free is made, and removed again where a write fails. A file that is there is
-// replaced: the bytes go to a new file in its folder, which then takes its name. So whoever reads
-// the file meets the old bytes or the new ones, also where the disk is full, the program is stopped,
-// or the file is the one that was read.
+// replaced: the bytes go to a new file in its folder, which gets its rights and then takes its name.
+// So whoever reads the file meets the old bytes or the new ones, also where the disk is full, the
+// program is stopped, or the file is the one that was read.
 //
-// What else may have the name cannot be replaced so, and is no file: a folder, a character device, a
-// pipe, and a link, which would be cut off from what it leads to.
+// What else may have the name cannot be replaced so, and is no file: a folder, a device, a pipe, and
+// a link, which would be cut off from what it leads to.
 ghost use Rattle.io.specs.Counts.{Counts};
+use crate::modes::is_file;
+use crate::modes::mode_of;
+use crate::modes::rights;
 use libc::PATH_MAX;
 
 // Writes the file that argument i names, and tells whether it could.
@@ -29,10 +32,11 @@ pub fn save(i: usize, bytes: &[u8]) -> bool {
         return false;
     }
     let beside = path;
-    if !is_writable(&path[..n]) {
+    let mode = mode_at(&path[..n]);
+    if !is_file(mode) {
         return false;
     }
-    replace(&path[..n], beside, bytes)
+    replace(&path[..n], beside, rights(mode), bytes)
 }
 
 // Writes a file that was made just now, and removes it where that fails. A disk may refuse bytes as
@@ -56,41 +60,34 @@ fn is_link(path: [u8; PATH_MAX]) -> bool {
     libc::readlink(&ended, &mut target) >= 0
 }
 
-// Whether a path names a file that may be written. A character device or a pipe has nothing that can
-// be synced.
-fn is_writable(path: &[u8]) -> bool {
+// The mode of what a path names, if it may be written; else 0.
+fn mode_at(path: &[u8]) -> u32 {
     let fd = os::open_update(path);
     if fd < 0 {
-        return false;
+        return 0;
     }
-    let synced = libc::fsync(fd);
+    let mode = mode_of(fd);
     libc::close(fd);
-    synced == 0
+    mode
 }
 
-// Puts a new file in the place of the one at a path, which `beside` holds too.
-fn replace(path: &[u8], mut beside: [u8; PATH_MAX], bytes: &[u8]) -> bool {
+// Puts a new file with these rights in the place of the one at a path, which `beside` holds too.
+fn replace(path: &[u8], mut beside: [u8; PATH_MAX], rights: u32, bytes: &[u8]) -> bool {
     let n = put_name(&mut beside, folder_len(path));
-    replace_by(path, &mut beside[..n], bytes)
+    replace_by(path, &mut beside[..n], rights, bytes)
 }
 
-// The same, by way of a temporary file of this name. Its name is kept, and the file made anew with
-// the rights that a new file has: those of a temporary one are its owner's alone.
-fn replace_by(path: &[u8], beside: &mut [u8], bytes: &[u8]) -> bool {
-    let taken = os::create_temp(beside);
-    if taken < 0 {
-        return false;
-    }
-    libc::close(taken);
-    os::unlink(beside);
-    let fd = os::create(beside);
+// The same, by way of a temporary file of this name.
+fn replace_by(path: &[u8], beside: &mut [u8], rights: u32, bytes: &[u8]) -> bool {
+    let fd = os::create_temp(beside);
     if fd < 0 {
         return false;
     }
+    let allowed = libc::fchmod(fd, rights);
     if !write_new(fd, bytes, beside) {
         return false;
     }
-    if os::rename(beside, path) == 0 {
+    if allowed == 0 && os::rename(beside, path) == 0 {
         return true;
     }
     os::unlink(beside);
