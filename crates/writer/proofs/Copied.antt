@@ -1,8 +1,8 @@
 -- A character that no escape spells stands in a text as it is written, so its bytes are copied; and none is written longer than it stood.
 use Prim.Native.Nat.{ℕ, _≤_}
 use mathlib.Core.Path.{_≡_, sym, ap, _∙_, subst}
-use mathlib.Core.Logic.{inl, inr}
-use mathlib.Core.Bool.{true}
+use mathlib.Core.Logic.{_⊎_, inl, inr}
+use mathlib.Core.Bool.{true, false}
 use mathlib.Core.List.{List}
 use native.Mathlib.Omega.{arith}
 use lib.ListN.{length}
@@ -41,9 +41,14 @@ is-spelled : {w : List ℕ} {v : ℕ} → IsUtf8 w v → IsUnescaped v → spell
 unfolding spellChar
 is-spelled {v = v} u r = let a = apart r in rw (le-ltb v 0x20 (a .0), ne-eqb v 0x22 (a .1), ne-eqb v 0x5C (a .2)) (sym (utf8-only u))
 
-ordinary : (b : ℕ) → (b ≡ 0x22 → ⊥) → (b ≡ 0x5C → ⊥) → isOrdinary b ≡ true
+pub ordinary : (b : ℕ) → (b ≡ 0x22 → ⊥) → (b ≡ 0x5C → ⊥) → isOrdinary b ≡ true
 unfolding isOrdinary
 ordinary b n m = rw (ne-eqb b 0x22 n, ne-eqb b 0x5C m)
+
+pub not-ordinary : {b : ℕ} → (b ≡ 0x22) ⊎ (b ≡ 0x5C) → isOrdinary b ≡ false
+unfolding isOrdinary
+not-ordinary (inl e) = rw e
+not-ordinary (inr e) = rw e
 
 -- a byte of several
 high : (b : ℕ) → 0x80 ≤ b → isOrdinary b ≡ true

@@ -1,6 +1,7 @@
 -- Stretch: in a string that ends, the bytes up to the next backslash or quote are copied. And no string is written longer than it stood.
 use Prim.Native.Nat.{ℕ, zero, suc, _+_, _-_, _≤_, _<_}
 use mathlib.Core.Path.{_≡_, refl, sym, ap, _∙_}
+use mathlib.Core.Logic.{inl, inr}
 use mathlib.Core.Bool.{Bool, true, false}
 use mathlib.Core.List.{List, [], _∷_, _++_, append-assoc}
 use native.Mathlib.Omega.{arith}
@@ -24,7 +25,7 @@ use Rattle.writer.specs.Spell.{spellChars}
 use Rattle.writer.specs.Runs.{isOrdinary, ordinaryEnd}
 use Rattle.writer.specs.Tokens.{stringBytes}
 use Rattle.writer.proofs.runs.Laws.{length-part}
-use Rattle.writer.proofs.Copied.{never, char-short, char-copied, char-is}
+use Rattle.writer.proofs.Copied.{never, not-ordinary, char-short, char-copied, char-is}
 
 -- from i on: the string goes on behind the stretch, which is copied
 pub record Stretch (s : List ℕ) (i e : ℕ) : Type 0 where
@@ -106,8 +107,7 @@ module _ (s : List ℕ) (i e : ℕ) (h : stringAt s i ≡ Ends e) where
       }
 
 pub stretch : (s : List ℕ) (i e : ℕ) → stringAt s i ≡ Ends e → Stretch s i e
-unfolding isOrdinary
 stretch s i e h =
     each-char s e (λ i. Stretch s i e)
-    (λ i h q. none s i e h (rw (quote-byte s i e q h)))
-    (λ i v j h q r. by-test (eqb (byteAt s i) 0x5C) (λ t. none s i e h (rw (eqb-true (byteAt s i) 0x5C t))) (λ f. more s i e h v j q (eqb-false _ _ f) r)) i h
+    (λ i h q. none s i e h (not-ordinary (inl (quote-byte s i e q h))))
+    (λ i v j h q r. by-test (eqb (byteAt s i) 0x5C) (λ t. none s i e h (not-ordinary (inr (eqb-true (byteAt s i) 0x5C t)))) (λ f. more s i e h v j q (eqb-false _ _ f) r)) i h

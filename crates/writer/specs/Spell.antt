@@ -32,6 +32,7 @@ hexDigit n = cond (ltb n 10) (0x30 + n) (0x57 + n)
 abbrev pub longForm : ℕ → List ℕ
 longForm c = 0x5C ∷ 0x75 ∷ 0x30 ∷ 0x30 ∷ hexDigit (c / 16) ∷ hexDigit (c % 16) ∷ []
 
+-- either form
 abbrev pub escape : ℕ → List ℕ
 escape c = cond (eqb (letterOf c) 0) (longForm c) (0x5C ∷ letterOf c ∷ [])
 
@@ -39,6 +40,7 @@ escape c = cond (eqb (letterOf c) 0) (longForm c) (0x5C ∷ letterOf c ∷ [])
 unfoldable pub spellChar : ℕ → List ℕ
 spellChar c = cond (isEscaped c) (escape c) (utf8 c)
 
+-- one character behind the other
 abbrev pub spellChars : List ℕ → List ℕ
 spellChars [] = []
 spellChars (c ∷ s) = spellChar c ++ spellChars s
@@ -49,6 +51,7 @@ spellString s = 0x22 ∷ (spellChars s ++ (0x22 ∷ []))
 
 -- ---- values
 
+-- the literal names of RFC 8259, section 3
 abbrev pub spellBoolean : Bool → List ℕ
 spellBoolean true = text "true"
 spellBoolean false = text "false"
@@ -63,7 +66,7 @@ beforeMembers mnil t = t
 beforeMembers (mcons n v ms) t = 0x2C ∷ t
 
 abbrev mutual
-  -- "numbers as spelled"
+  -- "numbers as spelled"; brackets, commas and colons are RFC 8259's, sections 4 and 5
   pub spell : Value → List ℕ
   spell null = text "null"
   spell (boolean b) = spellBoolean b

@@ -6,7 +6,7 @@ use mathlib.Core.List.{List, [], _∷_, _++_, append-assoc}
 use native.Mathlib.Omega.{arith}
 use lib.ListN.{length, length-append}
 use lib.Dec.{eqb}
-use borrow.Author.Tests.{ne-eqb}
+use borrow.Author.Tests.{ne-eqb, eqb-false}
 use Rattle.model.proofs.Basics.{by-test}
 use Rattle.chars.specs.Bytes.{byteAt}
 use mathlib.Core.Logic.{_⊎_, inl, inr}
@@ -26,6 +26,7 @@ use Rattle.writer.specs.Runs.{isOrdinary, ordinaryEnd, isStructural, isA
 use Rattle.writer.specs.Tokens.{nextOf, bytesOf, stretchEnd, stretchBytes, stringEnd, stringBytes, tokenEnd, tokenBytes, piece}
 use Rattle.writer.specs.declared.pieces.Piece.{Piece}
 use Rattle.writer.proofs.runs.Laws.{run-length}
+use Rattle.writer.proofs.Copied.{ordinary}
 use Rattle.writer.proofs.Stretches.{stretch, string-short, not-refused, quote-ends, quote-byte}
 
 -- a piece by its numbers
@@ -125,16 +126,15 @@ module _ {s : List ℕ} {at : ℕ} where
       escaped Quote q = absurd (b (quote-byte s i (stringEnd s at) q (g .goes-on)))
       escaped (Refused c p) q = absurd (not-refused s i c p (stringEnd s at) q (g .goes-on))
 
-      ordinary : eqb (byteAt s i) 0x5C ≡ false → Passed (ordinaryEnd s i) (part s i (ordinaryEnd s i))
-      unfolding isOrdinary
-      ordinary f =
+      copied : eqb (byteAt s i) 0x5C ≡ false → Passed (ordinaryEnd s i) (part s i (ordinaryEnd s i))
+      copied f =
           let r = stretch s i (stringEnd s at) (g .goes-on) in
-          let z = run-next isOrdinary s i (in-text .0) (rw (ne-eqb (byteAt s i) 0x22 b, f)) in
+          let z = run-next isOrdinary s i (in-text .0) (ordinary (byteAt s i) b (eqb-false _ _ f)) in
           (omega (arith, run-from isOrdinary s (i + 1)), more (ordinaryEnd s i) (part s i (ordinaryEnd s i)) (r .goes-on) (r .copied))
 
       in-stretch : Passed (stretchEnd s i) (stretchBytes s i)
       unfolding stretchEnd stretchBytes
-      in-stretch = by-test (eqb (byteAt s i) 0x5C) (λ t. rw t (escaped (charAt s i) refl)) (λ f. rw f (ordinary f))
+      in-stretch = by-test (eqb (byteAt s i) 0x5C) (λ t. rw t (escaped (charAt s i) refl)) (λ f. rw f (copied f))
 
       -- by the piece that was told
       pub in-piece : {p : Piece} → p ≡ piece (stretchEnd s i) (stretchBytes s i) → (i < p .next) × InString s at (p .next) (n + p .len) (done ++ stretchBytes s i)

@@ -28,7 +28,9 @@ length-part s a e l h = simp (length-take, length-drop) (omega arith)
 
 -- a run ends within the text, or where it begins
 pub run-most : (p : ℕ → Bool) (s : List ℕ) (i : ℕ) → run p s i ≤ max i (length s)
-run-most p s i = by-test (leb i (length s)) (λ t. omega (arith, run-within p s i (leb-true i (length s) t))) (λ f. let l : length s < i = leb-false i (length s) f in omega (arith, run-end p s i (omega arith)))
+run-most p s i =
+    by-test (leb i (length s)) (λ t. omega (arith, run-within p s i (leb-true i (length s) t)))
+    (λ f. let l : length s < i = leb-false i (length s) f in omega (arith, run-end p s i (omega arith)))
 
 pub run-length : (p : ℕ → Bool) (s : List ℕ) (i : ℕ) → length (part s i (run p s i)) ≡ run p s i - i
 run-length p s i = length-part s i (run p s i) (run-from p s i) (run-most p s i)

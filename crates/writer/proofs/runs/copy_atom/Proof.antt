@@ -1,10 +1,12 @@
 -- `writer::runs::copy_atom` meets its contract. The loop's invariant: the run goes on at i, and its bytes up to there are written.
-use mathlib.Core.Path.{sym, _∙_}
+use mathlib.Core.Path.{_≡_, sym, _∙_}
+use mathlib.Core.Bool.{true}
 use Prim.Native.Nat.{_-_}
 use native.Mathlib.Omega.{arith}
 use borrow.Author.Needs.{needs}
 use borrow.Author.Tests.{not-true, not-false}
 use lib.ListN.{length}
+use Rattle.chars.specs.Bytes.{byteAt}
 use Rattle.chars.proofs.Facts.{run-end, run-stop}
 use Rattle.writer.specs.Runs.{isAtom}
 use Rattle.writer.proofs.runs.Laws.{Copying, copying-none, copying-length, copying-room, copying-next, copying-done}
@@ -24,6 +26,9 @@ turn c = c .before .before .before .before
 abbrev start : tie.At-loop Inv μ → tie.Start Inv μ
 start l = l .before .before .before
 
+passes : (c : tie.Else1 Inv μ) → isAtom (byteAt (start (turn c) .args .text .now) (turn c .loop .i)) ≡ true
+passes c = sym (c .before .is-atom .ensures) ∙ not-false _ (c .if1 .left)
+
 returns : tie.Need-returns Inv μ
 returns c =
     let g = c .before .before .before .before .loop .inv in
@@ -37,9 +42,9 @@ copy-atom-spec = tie.close (tie.spec Inv μ
     (λ c. copying-length isAtom _ _ _ (start (c .before .before .before .before) .pre) (c .before .before .before .before .loop .inv))  -- same-length
     returns
     (λ c. omega (arith, turn c .loop .inv .ahead))  -- i - at
-    (λ c. copying-room isAtom _ _ _ (start (turn c) .pre) (turn c .loop .inv) (c .before .before .before .loop-test .taken) (sym (c .before .is-atom .ensures) ∙ not-false _ (c .if1 .left)))  -- out[i - at]
+    (λ c. copying-room isAtom _ _ _ (start (turn c) .pre) (turn c .loop .inv) (c .before .before .before .loop-test .taken) (passes c))  -- out[i - at]
     (λ c. omega arith)  -- i + 1
     (λ c. omega arith)  -- loop-less
-    (λ c. copying-next isAtom _ _ _ (start (turn c) .pre) (turn c .loop .inv) (c .before .before .before .loop-test .taken) (sym (c .before .is-atom .ensures) ∙ not-false _ (c .if1 .left)))  -- loop-again
+    (λ c. copying-next isAtom _ _ _ (start (turn c) .pre) (turn c .loop .inv) (c .before .before .before .loop-test .taken) (passes c))  -- loop-again
     (λ c. copying-length isAtom _ _ _ (start (c .before) .pre) (c .before .loop .inv))  -- same-length-2
     (λ c. copying-done isAtom _ _ _ (c .before .loop .inv) (run-end isAtom _ _ (c .loop-test .left))))  -- the text ended
