@@ -32,6 +32,10 @@ pub not-true : (x : Bool) → not x ≡ true → x ≡ false
 not-true true e = absurd (false≢true e)
 not-true false e = refl
 
+pub not-false : (x : Bool) → not x ≡ false → x ≡ true
+not-false true e = refl
+not-false false e = absurd (true≢false e)
+
 pub clash : {A : Type 0} (x : Bool) → x ≡ true → x ≡ false → A
 clash x p q = absurd (true≢false (sym p ∙ q))
 

@@ -2,9 +2,9 @@
 use Prim.Native.Nat.{ℕ}
 use mathlib.Core.Path.{_≡_, refl, sym, _∙_}
 use mathlib.Core.Logic.{inl, inr}
-use mathlib.Core.Bool.{Bool, true, false, _&&_, false≢true, true≢false, Bool·beq, and-eq-true-iff}
+use mathlib.Core.Bool.{Bool, true, false, not, _&&_, false≢true, true≢false, Bool·beq, and-eq-true-iff}
 use mathlib.Core.List.{List, _∷_}
-use lib.ListN.{replicate}
+use lib.ListN.{length}
 use Rattle.model.specs.Value.{Value, null, array, object, Values, vnil, Members, mnil, mcons, Among, Under, hasName}
 use Rattle.model.specs.Value.{IsJson}
 use Rattle.model.specs.Definition.{Named, JSON, Schema, Float, Integer, String, Boolean, DateTime, Def, named, array-of, map-of}
@@ -12,8 +12,8 @@ use Rattle.model.specs.Definition.{object-of, Fields, fnil, fcons, hasFi
 use Rattle.model.specs.Meeting.{IfArray, IfObject, meetsNamed, HasNames, Meets, FieldsMeet}
 use Rattle.model.specs.Carried.{NotCarried}
 use Rattle.model.specs.Subtype.{is, subtypeNamed, ofObjects, other, under, requires, requiresAll, subtype, subtypeFields}
-use Rattle.model.specs.Witness.{plain, apart, sample, kept, ownRun, fresh, others, beyondNamed, witness, witnessFields}
-use Rattle.model.proofs.Basics.{and-false, clash, false-of, both, by-test}
+use Rattle.model.specs.Witness.{plain, apart, sample, kept, behind, avoiding, ownNames, fresh, others, beyondNamed, witness, witnessFields}
+use Rattle.model.proofs.Basics.{and-ways, not-true, not-false, clash, false-of, both}
 use Rattle.model.proofs.Formed.{WellFormed, AreFields}
 use Rattle.model.proofs.Samples.{plain-meets, plain-json, kept-name, sample-meets, sample-json, member-json, member-meets}
 use Rattle.model.proofs.Samples.{fresh-text, fresh-under, other-formed, under-formed}
@@ -110,7 +110,7 @@ beyond-named t (object-of r o) k h =
     let a : Def = object-of r o in (
       member-json a k (fresh a) (fresh-text a) null tt,
       member-meets a refl k (fresh a) null (rw (fresh-under a) refl),
-      object-fails t h (replicate (ownRun a) 0x61) null (others a (fresh a)),
+      object-fails t h (avoiding (length (ownNames a)) (behind 0x61 (ownNames a))) null (others a (fresh a)),
     )
 
 -- ---- the old definition is of arrays
@@ -148,29 +148,19 @@ no-object (array-of d) e P m = m
 no-object (map-of d) e P m = true≢false e
 no-object (object-of r o) e P m = true≢false e
 
--- members with only names that a asks for lack one of the fields
-lacks : (a : Def) (ms : Members) → ((n : List ℕ) → requires a n ≡ false → hasName n ms ≡ false)
-    → (fs : Fields) → requiresAll a fs ≡ false → HasNames fs ms → ⊥
-lacks a ms f fnil h m = true≢false h
-lacks a ms f (fcons n d fs) h m = elim (and-false (requires a n) (requiresAll a fs) h) [
-  | inl e ↦ clash (hasName n ms) (m .0) (f n e)
-  | inr e ↦ lacks a ms f fs (e .1) (m .1)
-]
+-- the sample lacks a name that a does not ask for, and so fails a definition that does
+sample-lacks : (a : Def) → ofObjects a ≡ true → (n : List ℕ) → requires a n ≡ false
+    → (b : Def) → ((ms : Members) → Meets b (object ms) → hasName n ms ≡ true) → Meets b (sample a) → ⊥
+sample-lacks (named t) e n z b f m = false≢true e
+sample-lacks (array-of d) e n z b f m = false≢true e
+sample-lacks (map-of d) e n z b f m = false≢true (f mnil m)
+sample-lacks (object-of r o) e n z b f m =
+    let ms : Members = kept (λ x. true) r in
+    clash (hasName n ms) (f ms m) (false-of (hasName n ms) (hasField n r) (kept-name (λ x. true) r n) z)
 
-sample-lacks : (a : Def) → ofObjects a ≡ true → (fs gs : Fields) → requiresAll a fs ≡ false → Meets (object-of fs gs) (sample a) → ⊥
-sample-lacks (named t) e fs gs h m = false≢true e
-sample-lacks (array-of d) e fs gs h m = m
-sample-lacks (map-of d) e fs gs h m = lacks (map-of d) mnil (λ n z. refl) fs h (m .0)
-sample-lacks (object-of r o) e fs gs h m =
-    lacks (object-of r o) (kept (λ x. true) r)
-    (λ n z. false-of (hasName n (kept (λ x. true) r)) (hasField n r) (kept-name (λ x. true) r n) z) fs h (m .0)
-
--- fields that do not fail leave the value as it is
-no-field : (fs : Fields) (a : Def) → subtypeFields a fs ≡ true → (v : Value) → witnessFields a fs v ≡ v
-no-field fnil a h v = refl
-no-field (fcons n q fs) a h v =
-    let k = and-eq-true-iff (subtype (under a n) q) (subtypeFields a fs) .0 h in
-    rw (k .0) (no-field fs a (k .1) v)
+-- members that meet b hold what the fields ask, and have their names where these are required
+abbrev Asks : Bool → Fields → Def → Type 0
+Asks required fs b = (ms : Members) → Meets b (object ms) → (required ≡ true → HasNames fs ms) × FieldsMeet fs ms
 
 mutual
   pub witness-works : (b a : Def) → WellFormed b → WellFormed a → subtype a b ≡ false → IsJson (witness a b) × Meets a (witness a b) × (¬ Meets b (witness a b))
@@ -184,35 +174,29 @@ mutual
         λ m. x .2 (m (fresh a) (witness (other a) q) (inl (refl, refl))),
       ))
       (λ e. (sample-json a k, sample-meets a k, no-object a e (λ ms. (n : List ℕ) (w : Value) → Under n w ms → Meets q w)))
-  witness-works (object-of r o) a l k h = both (Works a (object-of r o)) (ofObjects a && requiresAll a r)
-      (λ e.
-      let g = and-eq-true-iff (ofObjects a) (requiresAll a r) .0 e in
-      by-test (subtypeFields a r)
-      (λ z. rw (no-field r a z (witnessFields a o (sample a)))
-      (fields-work o a (l .1) k (g .0) (rw (g .0, g .1, z) at h) (sample a) (object-of r o) (λ ms m. m .2)))
-      (λ z. fields-work r a (l .0) k (g .0) z (witnessFields a o (sample a)) (object-of r o) (λ ms m. m .1)))
-      (λ e. (
-        sample-json a k,
-        sample-meets a k,
-        λ m. elim (and-false (ofObjects a) (requiresAll a r) e) [
-          | inl z ↦ no-object a z (λ ms. HasNames r ms × FieldsMeet r ms × FieldsMeet o ms) m
-          | inr z ↦ sample-lacks a (z .0) r o (z .1) m
-        ],
-      ))
+  witness-works (object-of r o) a l k h = both (Works a (object-of r o)) (ofObjects a)
+      (λ e. fields-work r true a (l .0) k e (object-of r o) (λ ms m. (λ _. m .0, m .1)) (witnessFields false a o (sample a))
+      (λ x y. fields-work o false a (l .1) k e (object-of r o) (λ ms m. (λ z. absurd (false≢true z), m .2)) (sample a)
+      (λ _ z. clash (subtype a (object-of r o)) (rw (e, x refl, y, z) refl) h)))
+      (λ e. (sample-json a k, sample-meets a k, no-object a e (λ ms. HasNames r ms × FieldsMeet r ms × FieldsMeet o ms)))
 
-  -- the value fails b, which asks for what the fields do
-  fields-work : (fs : Fields) (a : Def) → AreFields fs → WellFormed a → ofObjects a ≡ true → subtypeFields a fs ≡ false → (v : Value)
-      → (b : Def) → ((ms : Members) → Meets b (object ms) → FieldsMeet fs ms) → Works a b (witnessFields a fs v)
-  fields-work fnil a l k e h v b f = absurd (true≢false h)
-  fields-work (fcons n q fs) a l k e h v b f = both (Works a b) (subtype (under a n) q)
-      (λ z. fields-work fs a (l .3) k e (rw z at h) v b (λ ms m. f ms m .1))
+  -- the value fails b, which asks for what the fields do, if v does where none of them fails
+  fields-work : (fs : Fields) (required : Bool) (a : Def) → AreFields fs → WellFormed a → ofObjects a ≡ true → (b : Def) → Asks required fs b
+      → (v : Value) → ((required ≡ true → requiresAll a fs ≡ true) → subtypeFields a fs ≡ true → Works a b v) → Works a b (witnessFields required a fs v)
+  fields-work fnil required a l k e b g v f = f (λ _. refl) refl
+  fields-work (fcons n q fs) required a l k e b g v f = both (Works a b) (required && not (requires a n))
+      (λ t. and-ways required (not (requires a n)) t
+      (λ x y. (sample-json a k, sample-meets a k, sample-lacks a e n (not-true (requires a n) y) b (λ ms m. g ms m .0 x .0))))
+      (λ x. both (Works a b) (subtype (under a n) q)
+      (λ z. fields-work fs required a (l .3) k e b (λ ms m. (λ y. g ms m .0 y .1, g ms m .1 .1)) v
+      (λ y w. f (λ u. rw (not-false (requires a n) (rw u at x), y u) refl) (rw (z, w) refl)))
       (λ z.
       let w : Value = witness (under a n) q in
       let x = witness-works q (under a n) (l .2) (under-formed a k n) z in (
         member-json a k n (l .0) w (x .0),
         member-meets a e k n w (x .1),
-        λ m. x .2 (f (mcons n w (others a n)) m .0 w (inl (refl, refl))),
-      ))
+        λ m. x .2 (g (mcons n w (others a n)) m .1 .0 w (inl (refl, refl))),
+      )))
 
 pub complete : (b a : Def) → WellFormed b → WellFormed a → subtype a b ≡ false → NotCarried a b
 complete b a l k h = let x = witness-works b a l k h in (witness a b, x .0, x .1, x .2)

@@ -4,6 +4,7 @@ pub mod Deciding
 pub mod Formed
 pub mod Sound
 pub mod Samples
+pub mod Letters
 pub mod Complete
 pub mod Examples
 pub mod DateExamples

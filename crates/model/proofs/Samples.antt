@@ -1,18 +1,21 @@
 -- The values of specs/Witness.antt that meet a definition: its sample, and objects with a given member.
-use Prim.Native.Nat.{ℕ, zero, suc, _≤_}
+use Prim.Native.Nat.{ℕ, zero, suc, _+_, _*_, _^_, _≤_, _<_}
 use native.Mathlib.Omega.{arith}
 use mathlib.Core.Path.{_≡_, refl, sym, ap, _∙_, subst}
 use mathlib.Core.Logic.{inl, inr}
-use mathlib.Core.Bool.{Bool, true, false, not, cond, _||_, false≢true, and-eq-true-iff}
-use mathlib.Core.List.{List, []}
-use lib.ListN.{replicate}
-use Rattle.model.specs.Text.{text, same, isText}
+use mathlib.Core.Bool.{Bool, true, false, not, cond, _||_, false≢true, and-eq-true-iff, or-assoc}
+use mathlib.Core.List.{List, [], _∷_, _++_}
+use lib.ListN.{length}
+use lib.Dec.{leb, eqb}
+use borrow.Author.Tests.{leb-true, leb-false, eqb-true, eqb-false, eq-eqb, ne-eqb}
+use native.Mathlib.Nat.{pow-suc}
+use Rattle.model.specs.Text.{text, same, isScalar, isText}
 use Rattle.model.specs.Value.{Value, object, Members, mnil, mcons, Under, hasName, IsJson, AreMembers}
 use Rattle.model.specs.Definition.{Named, JSON, Schema, Float, Integer, String, Boolean, DateTime, Def, named, array-of, map-of}
 use Rattle.model.specs.Definition.{object-of, Fields, fnil, fcons, hasField, disjoint}
 use Rattle.model.specs.Meeting.{meetsNamed, HasNames, Meets, FieldsMeet}
 use Rattle.model.specs.Subtype.{fieldOr, ofObjects, other, under}
-use Rattle.model.specs.Witness.{plain, sample, kept, run, longestRun, ownRun, fresh, withMember}
+use Rattle.model.specs.Witness.{plain, sample, kept, following, behind, rarer, avoiding, names, ownNames, fresh, others, withMember}
 use Rattle.model.proofs.Basics.{same-eq, same-of, same-refl, or-true, or-false, or-left, or-right, not-true, clash, false-of}
 use Rattle.model.proofs.Basics.{both, by-test}
 use Rattle.model.proofs.Formed.{WellFormed, AreFields}
@@ -195,21 +198,76 @@ member-meets (object-of r o) e k n w h =
       | inr q ↦ kept-under r (k .0) (λ m. not (same n m)) (fieldOr (named JSON) m o) m v q
     ])
 
--- ---- the fresh name begins with more 'a's than any name of the definition
-run-replicate : (k : ℕ) → run (replicate k 0x61) ≡ k
-run-replicate zero = refl
-run-replicate (suc k) = ap suc (run-replicate k)
+-- ---- the fresh name is none of the definition's names
 
-short : (n : List ℕ) (fs : Fields) → hasField n fs ≡ true → run n ≤ longestRun fs
-short n fnil h = absurd (false≢true h)
-short n (fcons m d fs) h = elim (or-true (same n m) (hasField n fs) h) [
-  | inl k ↦ rw (same-eq n m k) (omega arith)
-  | inr k ↦ omega (arith, short n fs k)
-]
+-- n is one of the names
+abbrev isOne : List ℕ → List (List ℕ) → Bool
+isOne n [] = false
+isOne n (m ∷ ns) = same n m || isOne n ns
 
-fresh-absent : (a : Def) (fs : Fields) → longestRun fs ≤ ownRun a → hasField (fresh a) fs ≡ false
-fresh-absent a fs h =
-    by-test (hasField (fresh a) fs) (λ k. absurd (omega (arith, short (fresh a) fs k, run-replicate (ownRun a)))) (λ k. k)
+one-append : (n : List ℕ) (ns ms : List (List ℕ)) → isOne n (ns ++ ms) ≡ (isOne n ns || isOne n ms)
+one-append n [] ms = refl
+one-append n (m ∷ ns) ms = rw (one-append n ns ms) (sym (or-assoc (same n m) (isOne n ns) (isOne n ms)))
+
+one-field : (n : List ℕ) (fs : Fields) → hasField n fs ≡ isOne n (names fs)
+one-field n fnil = refl
+one-field n (fcons m d fs) = ap (λ (b : Bool). same n m || b) (one-field n fs)
+
+-- a name that begins with c is one of the names exactly when the rest of it is one of what follows c
+one-following : (c : ℕ) (n m : List ℕ) (ns : List (List ℕ)) → isOne n (following c m ns) ≡ (same (c ∷ n) m || isOne n ns)
+one-following c n [] ns = refl
+one-following c n (x ∷ m) ns =
+    by-test (eqb x c) (λ t. rw (t, eq-eqb c x (sym (eqb-true x c t))))
+    (λ f. rw (f, ne-eqb c x (λ q. eqb-false x c f (sym q))))
+
+one-behind : (c : ℕ) (n : List ℕ) (ns : List (List ℕ)) → isOne (c ∷ n) ns ≡ isOne n (behind c ns)
+one-behind c n [] = refl
+one-behind c n (m ∷ ns) = ap (λ (b : Bool). same (c ∷ n) m || b) (one-behind c n ns) ∙ sym (one-following c n m (behind c ns))
+
+-- at most half of the names begin with the rarer letter
+both-letters : (n : List ℕ) (ls ms : List (List ℕ)) → length (following 0x61 n ls) + length (following 0x62 n ms) ≤ suc (length ls + length ms)
+both-letters [] ls ms = omega arith
+both-letters (x ∷ n) ls ms =
+    by-test (eqb x 0x61) (λ t. rw (eqb-true x 0x61 t) (omega arith))
+    (λ f. rw f (both (λ ns. length ls + length ns ≤ suc (length ls + length ms)) (eqb x 0x62) (λ _. omega arith) (λ _. omega arith)))
+
+letters : (ns : List (List ℕ)) → length (behind 0x61 ns) + length (behind 0x62 ns) ≤ length ns
+letters [] = omega arith
+letters (n ∷ ns) = omega (arith, both-letters n (behind 0x61 ns) (behind 0x62 ns), letters ns)
+
+pub half : (ns : List (List ℕ)) → 2 * length (behind (rarer ns) ns) ≤ length ns
+half ns =
+    let x : ℕ = length (behind 0x61 ns) in
+    let y : ℕ = length (behind 0x62 ns) in
+    both (λ c. 2 * length (behind c ns) ≤ length ns) (leb x y) (λ t. omega (arith, letters ns, leb-true x y t)) (λ f. omega (arith, letters ns, leb-false x y f))
+
+avoided : (k : ℕ) (ns : List (List ℕ)) → length ns ≤ k → isOne (avoiding k ns) ns ≡ false
+avoided zero [] h = refl
+avoided zero (n ∷ ns) h = absurd (omega arith)
+avoided (suc k) [] h = refl
+avoided (suc k) (n ∷ ns) h =
+    let c = rarer (n ∷ ns) in
+    one-behind c (avoiding k (behind c (n ∷ ns))) (n ∷ ns) ∙ avoided k (behind c (n ∷ ns)) (omega (arith, half (n ∷ ns)))
+
+-- at most m letters among fewer than 2 ^ m names
+pub avoiding-short : (m k : ℕ) (ns : List (List ℕ)) → length ns < 2 ^ m → length (avoiding k ns) ≤ m
+avoiding-short m zero ns h = omega arith
+avoiding-short m (suc k) [] h = omega arith
+avoiding-short zero (suc k) (n ∷ ns) h = absurd (omega arith)
+avoiding-short (suc m) (suc k) (n ∷ ns) h =
+    let c = rarer (n ∷ ns) in
+    omega (arith, avoiding-short m k (behind c (n ∷ ns)) (omega (arith, half (n ∷ ns), pow-suc 2 m)))
+
+fresh-none : (a : Def) → isOne (fresh a) (ownNames a) ≡ false
+fresh-none a =
+    one-behind 0x61 (avoiding (length (ownNames a)) (behind 0x61 (ownNames a))) (ownNames a)
+    ∙ avoided (length (ownNames a)) (behind 0x61 (ownNames a)) (omega (arith, letters (ownNames a)))
+
+fresh-absent : (r o : Fields) → (hasField (fresh (object-of r o)) r ≡ false) × (hasField (fresh (object-of r o)) o ≡ false)
+fresh-absent r o =
+    let n : List ℕ = fresh (object-of r o) in
+    let h = or-false (isOne n (names r)) (isOne n (names o)) (sym (one-append n (names r) (names o)) ∙ fresh-none (object-of r o)) in
+    (one-field n r ∙ h .0, one-field n o ∙ h .1)
 
 pub fresh-under : (a : Def) → under a (fresh a) ≡ other a
 fresh-under (named t) = refl
@@ -217,15 +275,30 @@ fresh-under (array-of d) = refl
 fresh-under (map-of d) = refl
 fresh-under (object-of r o) =
     let n : List ℕ = fresh (object-of r o) in
-    fieldOr-absent (fieldOr (named JSON) n o) n r (fresh-absent (object-of r o) r (omega arith))
-    ∙ fieldOr-absent (named JSON) n o (fresh-absent (object-of r o) o (omega arith))
+    fieldOr-absent (fieldOr (named JSON) n o) n r (fresh-absent r o .0)
+    ∙ fieldOr-absent (named JSON) n o (fresh-absent r o .1)
 
-isText-replicate : (k : ℕ) → isText (replicate k 0x61) ≡ true
-isText-replicate zero = refl
-isText-replicate (suc k) = isText-replicate k
+-- a name that the fields lack leaves them all
+kept-all : (n : List ℕ) (fs : Fields) → hasField n fs ≡ false → kept (λ m. not (same n m)) fs ≡ kept (λ m. true) fs
+kept-all n fnil h = refl
+kept-all n (fcons m d fs) h =
+    let k = or-false (same n m) (hasField n fs) h in
+    rw (k .0) (ap (mcons m (sample d)) (kept-all n fs (k .1)))
+
+-- beside the fresh name stand all required members
+pub others-fresh : (r o : Fields) → others (object-of r o) (fresh (object-of r o)) ≡ kept (λ m. true) r
+others-fresh r o = kept-all (fresh (object-of r o)) r (fresh-absent r o .0)
+
+rarer-text : (ns : List (List ℕ)) → isScalar (rarer ns) ≡ true
+rarer-text ns = both (λ c. isScalar c ≡ true) (leb (length (behind 0x61 ns)) (length (behind 0x62 ns))) (λ _. refl) (λ _. refl)
+
+avoiding-text : (k : ℕ) (ns : List (List ℕ)) → isText (avoiding k ns) ≡ true
+avoiding-text zero ns = refl
+avoiding-text (suc k) [] = refl
+avoiding-text (suc k) (n ∷ ns) = rw (rarer-text (n ∷ ns)) (avoiding-text k (behind (rarer (n ∷ ns)) (n ∷ ns)))
 
 pub fresh-text : (a : Def) → isText (fresh a) ≡ true
-fresh-text a = isText-replicate (ownRun a)
+fresh-text a = avoiding-text (length (ownNames a)) (behind 0x61 (ownNames a))
 
 pub other-formed : (a : Def) → WellFormed a → WellFormed (other a)
 other-formed (named t) k = tt

@@ -75,8 +75,15 @@ others :
     × (shown (required (pair "a" (t "Integer") "b" ("Map" ∶ t "Float"))) (required ("b" ∶ "Map" ∶ t "Integer")) ≡ some (pair "b" ("a" ∶ half) "a" whole))
 others = (refl, refl, refl, refl, refl, refl, refl, refl)
 
+-- what the new definition does not ask for is missing in its sample, if no field before it fails
+missing :
+    (shown (required ("a" ∶ "Array" ∶ t "Float")) (required (pair "a" ("Array" ∶ t "Float") "b" (t "JSON"))) ≡ some ("a" ∶ array vnil))
+    × (shown (required ("a" ∶ "Array" ∶ t "Float")) (required (pair "b" (t "JSON") "a" ("Array" ∶ t "Integer"))) ≡ some ("a" ∶ array vnil))
+    × (shown (required ("a" ∶ "Array" ∶ t "Float")) (required (pair "a" ("Array" ∶ t "Integer") "b" (t "JSON"))) ≡ some ("a" ∶ array (vcons half vnil)))
+missing = (refl, refl, refl)
+
 -- a name that is none of a, aab and b
-names : fresh (object-of (fcons (text "a") (named JSON) fnil) (fcons (text "aab") (named JSON) (fcons (text "b") (named JSON) fnil))) ≡ text "aaa"
+names : fresh (object-of (fcons (text "a") (named JSON) fnil) (fcons (text "aab") (named JSON) (fcons (text "b") (named JSON) fnil))) ≡ text "ab"
 names = refl
 
 -- they meet the new definition and fail the old one

@@ -1,14 +1,18 @@
--- For the theorem of Compare and for tests: a value that meets the new definition and fails the old one, where the new is not carried to the old. That it does is proofs/Complete.antt.
-use Prim.Native.Nat.{ℕ, suc, max}
-use mathlib.Core.Bool.{Bool, true, not, cond, _&&_}
-use mathlib.Core.List.{List, [], _∷_}
-use lib.Dec.{eqb}
-use lib.ListN.{replicate}
+-- For the theorem of Compare, and the document of its sister (02, L1): a value that meets the new definition and fails the old one, where the new is not carried to the old.
+-- That it does is proofs/Complete.antt.
+-- Its size: each required field of the new definition gives at most one member, and each Object or Map on the way to what fails one more.
+-- That one's name is from the old definition, or is of few letters: at most 13 where the new definition has fewer than 4,096 names.
+-- So it takes at most three times the bytes of the new schema and once those of the old one, and one bracket more than the new schema: counterexample/proofs/Shown.antt.
+use Prim.Native.Nat.{ℕ, zero, suc}
+use mathlib.Core.Bool.{Bool, true, false, not, cond, _&&_}
+use mathlib.Core.List.{List, [], _∷_, _++_}
+use lib.Dec.{leb, eqb}
+use lib.ListN.{length}
 use Rattle.model.specs.Text.{text, same}
 use Rattle.model.specs.Value.{Value, null, boolean, number, string, array, object, vnil, vcons, Members, mnil, mcons}
 use Rattle.model.specs.Definition.{Named, JSON, Schema, Float, Integer, String, Boolean, DateTime, Def, named, array-of, map-of}
 use Rattle.model.specs.Definition.{object-of, Fields, fnil, fcons}
-use Rattle.model.specs.Subtype.{ofObjects, other, under, requiresAll, subtype}
+use Rattle.model.specs.Subtype.{ofObjects, other, under, requires, subtype}
 
 -- a value of each named type that is neither array nor object
 abbrev pub plain : Named → Value
@@ -42,26 +46,55 @@ abbrev mutual
   kept p fnil = mnil
   kept p (fcons m d fs) = cond (p m) (mcons m (sample d) (kept p fs)) (kept p fs)
 
--- how many 'a's a name begins with
-abbrev pub run : List ℕ → ℕ
-run [] = 0
-run (c ∷ s) = cond (eqb c 0x61) (suc (run s)) 0
+-- ---- a name that is none of some names: letter by letter, each time the one of 'a' and 'b' with which fewer of the names go on, until none does
 
--- the most that a name of the fields begins with
-abbrev pub longestRun : Fields → ℕ
-longestRun fnil = 0
-longestRun (fcons n d fs) = max (run n) (longestRun fs)
+-- what follows the letter c in the name n, if n begins with it, before the others
+abbrev pub following : ℕ → List ℕ → List (List ℕ) → List (List ℕ)
+following c [] ns = ns
+following c (x ∷ n) ns = cond (eqb x c) (n ∷ ns) ns
 
--- the most that a name of the definition's own begins with
-abbrev pub ownRun : Def → ℕ
-ownRun (named t) = 0
-ownRun (array-of d) = 0
-ownRun (map-of d) = 0
-ownRun (object-of r o) = max (longestRun r) (longestRun o)
+-- what follows the letter c in the names that begin with it
+abbrev pub behind : ℕ → List (List ℕ) → List (List ℕ)
+behind c [] = []
+behind c (n ∷ ns) = following c n (behind c ns)
 
--- a name that the definition does not name: one 'a' more
+-- the letter with which fewer of the names begin
+abbrev pub rarer : List (List ℕ) → ℕ
+rarer ns = cond (leb (length (behind 0x61 ns)) (length (behind 0x62 ns))) 0x61 0x62
+
+-- the letters; k is at least the number of names
+abbrev pub avoiding : ℕ → List (List ℕ) → List ℕ
+avoiding zero ns = []
+avoiding (suc k) [] = []
+avoiding (suc k) (n ∷ ns) = let c = rarer (n ∷ ns) in c ∷ avoiding k (behind c (n ∷ ns))
+
+-- in their order
+abbrev pub names : Fields → List (List ℕ)
+names fnil = []
+names (fcons n d fs) = n ∷ names fs
+
+-- the definition's own names
+abbrev pub ownNames : Def → List (List ℕ)
+ownNames (named t) = []
+ownNames (array-of d) = []
+ownNames (map-of d) = []
+ownNames (object-of r o) = names r ++ names o
+
+-- an 'a' and letters that the definition's names do not go on with: none of its names
 abbrev pub fresh : Def → List ℕ
-fresh a = 0x61 ∷ replicate (ownRun a) 0x61
+fresh a = 0x61 ∷ avoiding (length (ownNames a)) (behind 0x61 (ownNames a))
+
+-- for private contracts: whether the name n begins with p, and how many of the names do
+abbrev pub begins : List ℕ → List ℕ → Bool
+begins [] n = true
+begins (c ∷ p) [] = false
+begins (c ∷ p) (x ∷ n) = eqb x c && begins p n
+
+abbrev pub counted : List ℕ → List (List ℕ) → ℕ
+counted p [] = 0
+counted p (n ∷ ns) = cond (begins p n) (suc (counted p ns)) (counted p ns)
+
+-- ---- objects
 
 -- the required members but the one of the name n
 abbrev pub others : Def → List ℕ → Members
@@ -87,9 +120,11 @@ abbrev mutual
   witness a (named t) = beyondNamed a
   witness a (array-of q) = elim a [ named s ↦ plain s | array-of p ↦ array (vcons (witness p q) vnil) | map-of p ↦ object mnil | object-of r o ↦ sample (object-of r o) ]
   witness a (map-of q) = cond (ofObjects a) (withMember a (fresh a) (witness (other a) q)) (sample a)
-  witness a (object-of r o) = cond (ofObjects a && requiresAll a r) (witnessFields a r (witnessFields a o (sample a))) (sample a)
+  witness a (object-of r o) = cond (ofObjects a) (witnessFields true a r (witnessFields false a o (sample a))) (sample a)
 
-  -- the first of the old definition's fields that fails gives the member; where none does, v
-  pub witnessFields : Def → Fields → Value → Value
-  witnessFields a fnil v = v
-  witnessFields a (fcons n q fs) v = cond (subtype (under a n) q) (witnessFields a fs v) (withMember a n (witness (under a n) q))
+  -- the first of the old definition's fields that fails gives the member; v where none does
+  -- `required`: a name that the new definition does not ask for is missing in its sample
+  pub witnessFields : Bool → Def → Fields → Value → Value
+  witnessFields required a fnil v = v
+  witnessFields required a (fcons n q fs) v =
+      cond (required && not (requires a n)) (sample a) (cond (subtype (under a n) q) (witnessFields required a fs v) (withMember a n (witness (under a n) q)))
