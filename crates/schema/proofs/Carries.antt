@@ -1,6 +1,6 @@
 -- Whether a new definition is carried to an old one, on plain values: one law for each way out of the functions of `comparing` (01, demand 3).
 use Prim.Native.Nat.{ℕ, zero, suc, _+_, _-_, _≤_, _<_}
-use mathlib.Core.Path.{_≡_, refl, sym, ap, ap₂, _∙_}
+use mathlib.Core.Path.{_≡_, refl, sym, ap, ap₂, subst, _∙_}
 use mathlib.Core.Bool.{Bool, true, false, not, cond, _&&_, _||_, true≢false}
 use mathlib.Core.Option.{Option, none, some}
 use mathlib.Core.List.{List}
@@ -8,7 +8,8 @@ use native.Mathlib.Omega.{arith}
 use denote.Enum.Declared.{tagOf}
 use types.Run.{OneOf, miss}
 use lib.ListN.{getD, replicate, getD-replicate}
-use lib.Dec.{T}
+use lib.Dec.{T, eqb}
+use borrow.Author.Tests.{eq-eqb, ne-eqb}
 use mir.Val.{hasKey}
 use Rattle.model.specs.Text.{text, same}
 use Rattle.model.specs.Definition.{Named, JSON, Schema, Float, Integer, String, Boolean, DateTime, Def, named, array-of, map-of}
@@ -27,8 +28,8 @@ use Rattle.schema.specs.Walking.{Reads, ObjectRow, Agrees, Finds}
 use Rattle.schema.specs.Matching.{nameAt, Matches}
 use Rattle.schema.specs.Comparing.{DefinedRow, typeIn, TypeRow, genericIn, GenericRow, IsJsonRow, OfObjectsRow, FieldsRow}
 use Rattle.schema.specs.Comparing.{fieldNamed, firstOf, definitionUnder, Gives}
-use Rattle.schema.specs.Comparing.{FindsField, FindsUnder, MatchesFields, MatchesUnder, Pairing, PairingTo, Decided, fieldSubtype, fieldsSubtype}
-use Rattle.schema.specs.Comparing.{FieldPairing, FieldDecided, FieldsPairing, FieldsDecided}
+use Rattle.schema.specs.Comparing.{FindsField, FindsUnder, MatchesFields, MatchesUnder, Pairing, PairingTo, Decided, fieldSubtype, firstFailing}
+use Rattle.schema.specs.Comparing.{FieldPairing, FieldDecided, FieldsPairing, FieldAt, Fails, FieldsFailing}
 use Rattle.schema.specs.declared.rows.Record.{Record}
 use Rattle.schema.specs.declared.names.TypeName.{TypeName}
 use Rattle.schema.specs.declared.names.TypeName.the-variants.{Json as json, Schema as schema, Float as float, Integer as integer}
@@ -38,7 +39,7 @@ use Rattle.schema.specs.declared.names.Generic.{Generic}
 use Rattle.schema.specs.declared.names.Generic.the-variants.{Array, Map, Object, Other}
 use Rattle.schema.proofs.names.TypeName.{the-type}
 use Rattle.schema.proofs.Defining.{Added, added-fine}
-use Rattle.schema.proofs.Trees.{row, as-row, part-object, same-part, MembersLeft, MemberHere, members-start, member-here}
+use Rattle.schema.proofs.Trees.{row, same-tree, as-row, part-object, same-part, MembersLeft, MemberHere, members-start, member-here}
 use Rattle.schema.proofs.Trees.{members-next, members-end}
 use Rattle.schema.proofs.Filling.{Answers, answers-start, answers-here, answers-next}
 use Rattle.schema.proofs.Shapes.{Within, in-name, in-array, in-map, Fielded, in-object, fields-found, part-less}
@@ -86,7 +87,7 @@ name-other ks t n s e h = rw e (go (hasKey ks (tagOf the-type s)) (subtypeName s
     go true false m f = refl
     go false b m f = absurd (f tt)
 
-of-name : (s : Named) → typeOf (typeName (some s)) ≡ some s
+pub of-name : (s : Named) → typeOf (typeName (some s)) ≡ some s
 of-name JSON = refl
 of-name Schema = refl
 of-name Float = refl
@@ -272,11 +273,11 @@ module _ {s t : List ℕ} {r : ℕ} {g : Generic} (h : GenericRow s t r g) {key 
 
 -- ---- the decision on fields is the one on definitions
 
-abbrev orDef : Def → Option Def → Def
+abbrev pub orDef : Def → Option Def → Def
 orDef e none = e
 orDef e (some d) = d
 
-field-or : (e : Def) (n : List ℕ) (fs : Fields) → fieldOr e n fs ≡ orDef e (fieldNamed n fs)
+pub field-or : (e : Def) (n : List ℕ) (fs : Fields) → fieldOr e n fs ≡ orDef e (fieldNamed n fs)
 field-or e n fnil = refl
 field-or e n (fcons m d fs) = choose (same n m) (field-or e n fs)
   where
@@ -293,7 +294,7 @@ has-field n (fcons m d fs) = choose (same n m) (has-field n fs)
     choose false h = h
 
 -- an optional field: what the new definition asks under its name is carried
-field-any : (a : Def) (n : List ℕ) (q : Def) → subtype (under a n) q ≡ fieldSubtype false (definitionUnder false a n) q
+pub field-any : (a : Def) (n : List ℕ) (q : Def) → subtype (under a n) q ≡ fieldSubtype false (definitionUnder false a n) q
 field-any (named t) n q = refl
 field-any (array-of d) n q = refl
 field-any (map-of d) n q = refl
@@ -305,7 +306,7 @@ field-any (object-of r o) n q = rw (field-or (fieldOr (named JSON) n o) n r, fie
     go (some d) y = refl
 
 -- a required field: it asks for the name too
-field-all : (a : Def) (n : List ℕ) (q : Def) → requires a n && subtype (under a n) q ≡ fieldSubtype true (definitionUnder true a n) q
+pub field-all : (a : Def) (n : List ℕ) (q : Def) → requires a n && subtype (under a n) q ≡ fieldSubtype true (definitionUnder true a n) q
 field-all (named t) n q = refl
 field-all (array-of d) n q = refl
 field-all (map-of d) n q = refl
@@ -315,15 +316,30 @@ field-all (object-of r o) n q = rw (field-or (fieldOr (named JSON) n o) n r, has
     go none = refl
     go (some d) = refl
 
-fields-any : (a : Def) (fs : Fields) → subtypeFields a fs ≡ fieldsSubtype false a fs
-fields-any a fnil = refl
-fields-any a (fcons n q fs) = ap₂ _&&_ (field-any a n q) (fields-any a fs)
+-- no field fails
+abbrev isNone : Option (List ℕ × Def) → Bool
+isNone none = true
+isNone (some f) = false
 
-fields-all : (a : Def) (fs : Fields) (c : Bool) → requiresAll a fs && (subtypeFields a fs && c) ≡ fieldsSubtype true a fs && c
+-- a is carried to each of the fields
+abbrev noneFails : Bool → Def → Fields → Bool
+noneFails required a fs = isNone (firstFailing required a fs)
+
+none-first : (b : Bool) (x : Option (List ℕ × Def)) (f : List ℕ × Def) → b && isNone x ≡ isNone (cond b x (some f))
+none-first true x f = refl
+none-first false x f = refl
+
+fields-any : (a : Def) (fs : Fields) → subtypeFields a fs ≡ noneFails false a fs
+fields-any a fnil = refl
+fields-any a (fcons n q fs) =
+    ap₂ _&&_ (field-any a n q) (fields-any a fs) ∙ none-first (fieldSubtype false (definitionUnder false a n) q) (firstFailing false a fs) (n, q)
+
+fields-all : (a : Def) (fs : Fields) (c : Bool) → requiresAll a fs && (subtypeFields a fs && c) ≡ noneFails true a fs && c
 fields-all a fnil c = refl
 fields-all a (fcons n q fs) c =
-    regroup (requires a n) (subtype (under a n) q) (requiresAll a fs) (subtypeFields a fs) (fieldsSubtype true a fs) (fields-all a fs c)
-    ∙ ap (λ (b : Bool). (b && fieldsSubtype true a fs) && c) (field-all a n q)
+    regroup (requires a n) (subtype (under a n) q) (requiresAll a fs) (subtypeFields a fs) (noneFails true a fs) (fields-all a fs c)
+    ∙ ap (λ (b : Bool). (b && noneFails true a fs) && c) (field-all a n q)
+    ∙ ap (λ (b : Bool). b && c) (none-first (fieldSubtype true (definitionUnder true a n) q) (firstFailing true a fs) (n, q))
   where
     no-second : (b : Bool) → b && false ≡ false
     no-second true = refl
@@ -335,8 +351,13 @@ fields-all a (fcons n q fs) c =
     regroup false s rs ss fs h = refl
 
 -- to an Object: only objects meet the new definition, and it is carried to the required and to the optional fields
-objects-subtype : (a : Def) (r o : Fields) → ofObjects a ≡ true → subtype a (object-of r o) ≡ fieldsSubtype true a r && fieldsSubtype false a o
-objects-subtype a r o h = rw h (fields-all a r (subtypeFields a o) ∙ ap (λ (b : Bool). fieldsSubtype true a r && b) (fields-any a o))
+objects-subtype : (a : Def) (r o : Fields) → ofObjects a ≡ true → subtype a (object-of r o) ≡ noneFails true a r && noneFails false a o
+objects-subtype a r o h = rw h (fields-all a r (subtypeFields a o) ∙ ap (λ (b : Bool). noneFails true a r && b) (fields-any a o))
+
+-- the row of the first that fails is 0 where none fails
+fails-none : (s t : List ℕ) (r v : ℕ) (x : Option (List ℕ × Def)) → Fails s t r v x → eqb v 0 ≡ isNone x
+fails-none s t r v none h = eq-eqb v 0 h
+fails-none s t r v (some f) h = ne-eqb v 0 (λ e. omega (arith, h .0))
 
 -- ---- to an Array
 
@@ -433,20 +454,25 @@ module _ {s₁ s₂ t₁ t₂ : List ℕ} {r₁ r₂ : ℕ} (i : PairingTo s₁ 
     abbrev pub optional-pair : Pairing s₁ s₂ t₁ t₂ r₁ r₂ → FieldsPairing s₁ s₂ t₁ t₂ r₁ v
     optional-pair p = record { new = p .new; old = optional-fields (i .is) f (p .old) }
 
-  module _ (h : OfObjectsRow s₁ t₁ r₁ true) {v : ℕ} (f : Finds s₂ t₂ (r₂ + 2) (text "required") v) {b : Bool} (k : FieldsDecided s₁ s₂ t₁ t₂ r₁ v true b) where
+  -- `failing_field` answers w for "required"
+  module _ (h : OfObjectsRow s₁ t₁ r₁ true) {v : ℕ} (f : Finds s₂ t₂ (r₂ + 2) (text "required") v) {w : ℕ} (k : FieldsFailing s₁ s₂ t₁ t₂ r₁ v true w) where
     whole : (p : Pairing s₁ s₂ t₁ t₂ r₁ r₂)
-        → b && fieldsSubtype false (plain (p .new .definition)) (plainFields (old-object (p .old) .optional)) ≡ subtype (plain (p .new .definition)) (plain (p .old .definition))
+        → eqb w 0 && noneFails false (plain (p .new .definition)) (plainFields (old-object (p .old) .optional)) ≡ subtype (plain (p .new .definition)) (plain (p .old .definition))
     whole p =
         let a = plain (p .new .definition) in
         let o = old-object (p .old) in
-        ap (λ (b : Bool). b && fieldsSubtype false a (plainFields (o .optional))) (k .tells (required-pair f p))
+        ap (λ (b : Bool). b && noneFails false a (plainFields (o .optional))) (fails-none s₂ t₂ v w (firstFailing true a (plainFields (o .required))) (k .tells (required-pair f p)))
         ∙ sym (objects-subtype a (plainFields (o .required)) (plainFields (o .optional)) (sym (h .tells (p .new)))) ∙ sym (ap (subtype a) (o .is))
 
-    pub object-fails : b ≡ false → Decided s₁ s₂ t₁ t₂ r₁ r₂ false
-    object-fails e = record { tells = λ p. rw e at (whole p) }
+    pub object-fails : 0 < w → Decided s₁ s₂ t₁ t₂ r₁ r₂ false
+    object-fails l = record { tells = λ p. rw (ne-eqb w 0 (λ e. omega arith)) at (whole p) }
 
-    pub object-ends : b ≡ true → {u : ℕ} → Finds s₂ t₂ (r₂ + 2) (text "optional") u → {c : Bool} → FieldsDecided s₁ s₂ t₁ t₂ r₁ u false c → Decided s₁ s₂ t₁ t₂ r₁ r₂ c
-    object-ends e g l = record { tells = λ p. l .tells (optional-pair g p) ∙ (rw e at (whole p)) }
+    pub object-ends : w ≤ 0 → {u : ℕ} → Finds s₂ t₂ (r₂ + 2) (text "optional") u → {x : ℕ} → FieldsFailing s₁ s₂ t₁ t₂ r₁ u false x → Decided s₁ s₂ t₁ t₂ r₁ r₂ (eqb x 0)
+    object-ends l {u} g {x} m = record {
+      tells = λ p.
+          (let a = plain (p .new .definition) in
+          fails-none s₂ t₂ u x (firstFailing false a (plainFields (old-object (p .old) .optional))) (m .tells (optional-pair g p)) ∙ (rw (eq-eqb w 0 (omega arith)) at (whole p)));
+    }
 
 -- ---- the old fields, one after the other
 
@@ -455,21 +481,27 @@ pub record InFields (s₁ s₂ t₁ t₂ : List ℕ) (r₁ r₂ : ℕ) (required
   pub given : FieldsPairing s₁ s₂ t₁ t₂ r₁ r₂
   pub rest : Members
   pub ahead : MembersLeft s₂ t₂ here left rest
+  pub past : 0 < here  -- row 0 stands for none
   pub fields : LocatedFields
   pub defines : fieldsAt s₂ rest ≡ fine fields
   pub less : sizesMembers rest < word t₂ r₂ 4
   pub stays : (p : FieldsPairing s₁ s₂ t₁ t₂ r₁ r₂)
-      → fieldsSubtype required (plain (p .new .definition)) (plainFields fields) ≡ fieldsSubtype required (plain (p .new .definition)) (plainFields (p .old .fields))
+      → firstFailing required (plain (p .new .definition)) (plainFields fields) ≡ firstFailing required (plain (p .new .definition)) (plainFields (p .old .fields))
 
 -- no members, no fields
-fields-empty : (s : List ℕ) {ms : Members} {fs : LocatedFields} → ms ≡ no-member → fieldsAt s ms ≡ fine fs → fs ≡ no-field
+pub fields-empty : (s : List ℕ) {ms : Members} {fs : LocatedFields} → ms ≡ no-member → fieldsAt s ms ≡ fine fs → fs ≡ no-field
 fields-empty s {fs = fs} e q = let z : fine no-field ≡ fine fs = sym (ap (fieldsAt s) e) ∙ q in cc
 
-same-fields : {s t : List ℕ} {r : ℕ} (f g : FieldsRow s t r) → f .fields ≡ g .fields
+-- a row has one definition, and one list of fields
+pub same-definition : {s t : List ℕ} {r : ℕ} (d e : DefinedRow s t r) → d .definition ≡ e .definition
+same-definition {s} d e =
+    let z : fine (d .definition) ≡ fine (e .definition) = sym (d .defines) ∙ ap (definitionAt s) (same-tree (d .row) (e .row)) ∙ e .defines in cc
+
+pub same-fields : {s t : List ℕ} {r : ℕ} (f g : FieldsRow s t r) → f .fields ≡ g .fields
 same-fields {s} f g = let z : fine (f .fields) ≡ fine (g .fields) = sym (f .defines) ∙ ap (fieldsAt s) (same-part (f .part) (g .part)) ∙ g .defines in cc
 
 module _ {s₁ s₂ t₁ t₂ : List ℕ} {r₁ r₂ : ℕ} {required : Bool} where
-  pub fields-none : r₂ ≡ 0 → FieldsDecided s₁ s₂ t₁ t₂ r₁ r₂ required true
+  pub fields-none : r₂ ≡ 0 → FieldsFailing s₁ s₂ t₁ t₂ r₁ r₂ required 0
   fields-none e = record { tells = λ p. rw (fields-empty s₂ (p .old .part .absent e) (p .old .defines)) refl }
 
   pub fields-start : (p : FieldsPairing s₁ s₂ t₁ t₂ r₁ r₂) → 0 < r₂ → {left : ℕ} → left ≡ word t₂ r₂ 3 → InFields s₁ s₂ t₁ t₂ r₁ r₂ required (r₂ + 1) left
@@ -479,15 +511,16 @@ module _ {s₁ s₂ t₁ t₂ : List ℕ} {r₁ r₂ : ℕ} {required : Bool} wh
         given = p;
         rest = p .old .part .members;
         ahead = members-start o e;
+        past = omega arith;
         fields = p .old .fields;
         defines = p .old .defines;
         less = omega (arith, row (as-row o) .subtree);
-        stays = λ q. ap (λ (fs : LocatedFields). fieldsSubtype required (plain (q .new .definition)) (plainFields fs)) (same-fields (p .old) (q .old));
+        stays = λ q. ap (λ (fs : LocatedFields). firstFailing required (plain (q .new .definition)) (plainFields fs)) (same-fields (p .old) (q .old));
       }
 
   module _ {here left : ℕ} (a : InFields s₁ s₂ t₁ t₂ r₁ r₂ required here left) where
-    pub fields-end : left ≤ 0 → FieldsDecided s₁ s₂ t₁ t₂ r₁ r₂ required true
-    fields-end l = record { tells = λ p. (rw (fields-empty s₂ (members-end (a .ahead) l) (a .defines)) at (a .stays p)) }
+    pub fields-end : left ≤ 0 → FieldsFailing s₁ s₂ t₁ t₂ r₁ r₂ required 0
+    fields-end l = record { tells = λ p. subst (Fails s₂ t₂ r₂ 0) (rw (fields-empty s₂ (members-end (a .ahead) l) (a .defines)) at (a .stays p)) refl }
 
     module _ (l : 0 < left) where
       abbrev here-member : MemberHere s₂ t₂ here (a .rest)
@@ -503,35 +536,42 @@ module _ {s₁ s₂ t₁ t₂ : List ℕ} {r₁ r₂ : ℕ} {required : Bool} wh
       pub field-less : word t₂ (here + 1) 4 < word t₂ r₂ 4
       field-less = omega (arith, row (here-member .value) .subtree, a .less, ap sizesMembers (here-member .is))
 
-      field-with : DefinedRow s₁ t₁ r₁ → FieldPairing s₁ s₂ t₁ t₂ r₁ here
-      field-with d = record {
-        new = d;
+      field-at : FieldAt s₂ t₂ r₂ here name (plain (added .definition))
+      field-at = record {
         name = here-member .in-table;
         quoted = here-member .quoted;
-        old = record { row = here-member .value; definition = added .definition; defines = added .defines };
+        is = refl;
+        value = record { row = here-member .value; definition = added .definition; defines = added .defines };
+        defines = refl;
+        less = field-less;
       }
+
+      field-with : DefinedRow s₁ t₁ r₁ → FieldPairing s₁ s₂ t₁ t₂ r₁ here
+      field-with d = record { new = d; name = field-at .name; quoted = field-at .quoted; old = field-at .value }
 
       pub field-pair : FieldPairing s₁ s₂ t₁ t₂ r₁ here
       field-pair = field-with (a .given .new)
 
       module _ {b : Bool} (h : FieldDecided s₁ s₂ t₁ t₂ r₁ here required b) where
-        -- this field's answer and that of the fields behind it
+        -- this field where it fails, and else the first of those behind it
         all-fields : (p : FieldsPairing s₁ s₂ t₁ t₂ r₁ r₂)
-            → b && fieldsSubtype required (plain (p .new .definition)) (plainFields (added .others)) ≡ fieldsSubtype required (plain (p .new .definition)) (plainFields (p .old .fields))
-        unfolding field-with
+            → cond b (firstFailing required (plain (p .new .definition)) (plainFields (added .others))) (some (name, plain (added .definition)))
+            ≡ firstFailing required (plain (p .new .definition)) (plainFields (p .old .fields))
+        unfolding field-with field-at
         all-fields p =
             let d = plain (p .new .definition) in
-            ap (λ (b : Bool). b && fieldsSubtype required d (plainFields (added .others))) (h .tells (field-with (p .new)))
-            ∙ sym (ap (λ (fs : LocatedFields). fieldsSubtype required d (plainFields fs)) (added .adds)) ∙ a .stays p
+            ap (λ (b : Bool). cond b (firstFailing required d (plainFields (added .others))) (some (name, plain (added .definition)))) (h .tells (field-with (p .new)))
+            ∙ sym (ap (λ (fs : LocatedFields). firstFailing required d (plainFields fs)) (added .adds)) ∙ a .stays p
 
-        pub field-fails : b ≡ false → FieldsDecided s₁ s₂ t₁ t₂ r₁ r₂ required false
-        field-fails e = record { tells = λ p. (rw e at (all-fields p)) }
+        pub field-fails : b ≡ false → FieldsFailing s₁ s₂ t₁ t₂ r₁ r₂ required here
+        field-fails e = record { tells = λ p. subst (Fails s₂ t₂ r₂ here) (rw e at (all-fields p)) (a .past, field-at) }
 
         pub field-next : b ≡ true → {x : Record} → Reads t₂ (here + 1) x → InFields s₁ s₂ t₁ t₂ r₁ r₂ required (x .next) (left - 1)
         field-next e p = record {
           given = a .given;
           rest = here-member .others;
           ahead = members-next (a .ahead) here-member (p .next);
+          past = omega (arith, p .next);
           fields = added .others;
           defines = added .define;
           less = omega (arith, a .less, ap sizesMembers (here-member .is));
@@ -554,7 +594,7 @@ module _ {s₁ s₂ t₁ t₂ : List ℕ} {r₁ r₂ : ℕ} {required : Bool} {v
       record { few = few; ahead = fields-start p l (omega arith); matched = answers-start (λ j h. m .tells o j (omega arith)) }
 
   module _ {i here : ℕ} (a : InWide s₁ s₂ t₁ t₂ r₁ r₂ required vs count i here) where
-    pub wide-end : count ≤ i → FieldsDecided s₁ s₂ t₁ t₂ r₁ r₂ required true
+    pub wide-end : count ≤ i → FieldsFailing s₁ s₂ t₁ t₂ r₁ r₂ required 0
     wide-end l = fields-end (a .ahead) (omega arith)
 
     module _ (l : i < count) where

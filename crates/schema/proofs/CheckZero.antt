@@ -1,5 +1,5 @@
 -- Check answers 0 exactly where both texts are read with room, the schema is accepted and the document meets (01, "Three services", "Meeting").
-use Prim.Native.Nat.{ℕ, _<_}
+use Prim.Native.Nat.{ℕ, _≤_, _<_}
 use mathlib.Core.Path.{_≡_, refl, ap}
 use mathlib.Core.Logic.{_↔_}
 use mathlib.Core.List.{List}
@@ -56,14 +56,14 @@ pub record Takes (w : ℕ) (s : List ℕ) (d : Located) : Type 0 where
 
 module _ (which w : ℕ) (s : List ℕ) where
   abbrev pub Way : Accepted → Type 0
-  Way (not-accepted a) = (0 < a .code) × ((d : Located) → Takes w s d → ⊥)
+  Way (not-accepted a) = ((0 < a .code) × (a .code ≤ 12)) × ((d : Located) → Takes w s d → ⊥)
   Way (accepted d) = Takes w s d × ((d₂ : Located) → Takes w s d₂ → d ≡ d₂)
 
   pub accept-way : Way (accept which w s)
   unfolding accept
   accept-way =
       by-parse (λ o. Way (acceptedAs which w s o)) (readSchema s)
-      (λ c p q. (read-code _ _ s c p q .0, λ d t. refused-none q (t .read)))
+      (λ c p q. (omega (arith, read-code _ _ s c p q), λ d t. refused-none q (t .read)))
       (λ n e q. both Way (leb (size n) (rowsIn w))
       (λ l. by-defined (λ o. Way (definedAs which o)) (definitionAt s n)
       (λ c p r. (omega (arith, fault-code s n c p r), λ d t. (let x = one-tree q (t .read) in let y = t .defines in let z : _≡_ {A = ℕ} 0 1 = cc in omega arith)))

@@ -1,7 +1,7 @@
 -- For private contracts: what the walkers of Compare are given, and what they answer.
 use Prim.Native.Nat.{ℕ, _+_, _≤_, _<_}
 use mathlib.Core.Path.{_≡_}
-use mathlib.Core.Bool.{Bool, true, false, cond, _&&_}
+use mathlib.Core.Bool.{Bool, false, cond}
 use mathlib.Core.Option.{Option, none, some}
 use mathlib.Core.List.{List}
 use lib.ListN.{length, getD}
@@ -130,9 +130,10 @@ abbrev pub fieldSubtype : Bool → Option Def → Def → Bool
 fieldSubtype required none q = cond required false (subtype (named JSON) q)
 fieldSubtype required (some d) q = subtype d q
 
-abbrev pub fieldsSubtype : Bool → Def → Fields → Bool
-fieldsSubtype required a fnil = true
-fieldsSubtype required a (fcons n q fs) = fieldSubtype required (definitionUnder required a n) q && fieldsSubtype required a fs
+-- the first of the fields to which a is not carried: its name and definition
+abbrev pub firstFailing : Bool → Def → Fields → Option (List ℕ × Def)
+firstFailing required a fnil = none
+firstFailing required a (fcons n q fs) = cond (fieldSubtype required (definitionUnder required a n) q) (firstFailing required a fs) (some (n, q))
 
 -- the old field's name is at row r₂, its definition behind it
 pub record FieldPairing (s₁ s₂ t₁ t₂ : List ℕ) (r₁ r₂ : ℕ) : Type 0 where
@@ -150,5 +151,19 @@ pub record FieldsPairing (s₁ s₂ t₁ t₂ : List ℕ) (r₁ r₂ : ℕ) : Ty
   pub new : DefinedRow s₁ t₁ r₁
   pub old : FieldsRow s₂ t₂ r₂
 
-pub record FieldsDecided (s₁ s₂ t₁ t₂ : List ℕ) (r₁ r₂ : ℕ) (required b : Bool) : Type 0 where
-  pub tells : (p : FieldsPairing s₁ s₂ t₁ t₂ r₁ r₂) → b ≡ fieldsSubtype required (plain (p .new .definition)) (plainFields (p .old .fields))
+-- the field with the name n and the definition q, among the fields at row r: its name is at row v, its definition behind it
+pub record FieldAt (s t : List ℕ) (r v : ℕ) (n : List ℕ) (q : Def) : Type 0 where
+  pub name : InTable t v
+  pub quoted : IsQuoted s (word t v 1) (word t v 2)
+  pub is : nameOf s (word t v 1) (word t v 2) ≡ n
+  pub value : DefinedRow s t (v + 1)
+  pub defines : plain (value .definition) ≡ q
+  pub less : word t (v + 1) 4 < word t r 4  -- its rows lie in those of the fields
+
+-- the row v of a field's name, and 0 where there is none
+abbrev pub Fails : List ℕ → List ℕ → ℕ → ℕ → Option (List ℕ × Def) → Type 0
+Fails s t r v none = v ≡ 0
+Fails s t r v (some f) = (0 < v) × FieldAt s t r v (f .0) (f .1)
+
+pub record FieldsFailing (s₁ s₂ t₁ t₂ : List ℕ) (r₁ r₂ : ℕ) (required : Bool) (v : ℕ) : Type 0 where
+  pub tells : (p : FieldsPairing s₁ s₂ t₁ t₂ r₁ r₂) → Fails s₂ t₂ r₂ v (firstFailing required (plain (p .new .definition)) (plainFields (p .old .fields)))

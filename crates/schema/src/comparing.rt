@@ -23,7 +23,7 @@ ghost use Rattle.schema.specs.Names.{subtypeName};
 ghost use Rattle.schema.specs.Comparing.{DefinedRow, TypeRow, GenericRow, IsJsonRow, OfObjectsRow, FieldsRow, FindsField, FindsUnder};
 ghost use Rattle.schema.specs.Walking.{ObjectRow};
 ghost use Rattle.schema.specs.Comparing.{MatchesFields, MatchesUnder, ManyNames};
-ghost use Rattle.schema.specs.Comparing.{Pairing, PairingTo, Decided, FieldPairing, FieldDecided, FieldsPairing, FieldsDecided};
+ghost use Rattle.schema.specs.Comparing.{Pairing, PairingTo, Decided, FieldPairing, FieldDecided, FieldsPairing, FieldsFailing};
 ghost use Rattle.schema.specs.declared.names.Generic.the-variants.{Array, Map, Object};
 
 // Whether one type name is carried to another.
@@ -63,7 +63,7 @@ fn carried_name(new: TypeName, old: TypeName) -> bool
 }
 
 // The type that the definition at a row names; of any other definition Unknown.
-fn type_at(text: &[u8], table: &[u32], row: usize) -> TypeName
+pub fn type_at(text: &[u8], table: &[u32], row: usize) -> TypeName
     requires { ⌜ DefinedRow (now text) (now table) row ⌝ }
     ensures { λ r. ⌜ TypeRow (now (text .entry)) (now (table .entry)) row r ⌝ }
 {
@@ -77,7 +77,7 @@ fn type_at(text: &[u8], table: &[u32], row: usize) -> TypeName
 }
 
 // The generic type of the definition at a row; of a type name Other.
-fn generic_at(text: &[u8], table: &[u32], row: usize) -> Generic
+pub fn generic_at(text: &[u8], table: &[u32], row: usize) -> Generic
     requires { ⌜ DefinedRow (now text) (now table) row ⌝ }
     ensures { λ r. ⌜ GenericRow (now (text .entry)) (now (table .entry)) row r ⌝ }
 {
@@ -99,7 +99,7 @@ fn is_json(text: &[u8], table: &[u32], row: usize) -> bool
 }
 
 // Whether only objects meet the definition at a row.
-fn of_objects(text: &[u8], table: &[u32], row: usize) -> bool
+pub fn of_objects(text: &[u8], table: &[u32], row: usize) -> bool
     requires { ⌜ DefinedRow (now text) (now table) row ⌝ }
     ensures { λ r. ⌜ OfObjectsRow (now (text .entry)) (now (table .entry)) row r ⌝ }
 {
@@ -139,7 +139,7 @@ fn find_in_object(text: &[u8], table: &[u32], row: usize, key: &[u8], required: 
 }
 
 // The same in a definition of any kind: a Map's definition stands under every name, and none is required.
-fn find_under(text: &[u8], table: &[u32], row: usize, key: &[u8], required: bool) -> usize
+pub fn find_under(text: &[u8], table: &[u32], row: usize, key: &[u8], required: bool) -> usize
     requires { ⌜ DefinedRow (now text) (now table) row ⌝ }
     ensures { λ r. ⌜ FindsUnder (now (text .entry)) (now (table .entry)) row (characters (now (key .entry))) required r ⌝ }
 {
@@ -302,15 +302,15 @@ fn carried_to_object(
         return false;
     }
     let required = find(old, rows2, b + 2, b"required");
-    if !carried_fields(new, old, rows1, rows2, a, required, true) {
+    if failing_field(new, old, rows1, rows2, a, required, true) > 0 {
         return false;
     }
     let optional = find(old, rows2, b + 2, b"optional");
-    carried_fields(new, old, rows1, rows2, a, optional, false)
+    failing_field(new, old, rows1, rows2, a, optional, false) == 0
 }
 
-// Whether the new definition at row `a` is carried to each of the old fields at row `fields`, of which row 0 has none.
-fn carried_fields(
+// The row of the name of the first of the old fields at row `fields`, of which row 0 has none, to which the new definition at row `a` is not carried; 0 where it is carried to each.
+pub fn failing_field(
     new: &[u8],
     old: &[u8],
     rows1: &[u32],
@@ -318,30 +318,30 @@ fn carried_fields(
     a: usize,
     fields: usize,
     required: bool,
-) -> bool
+) -> usize
     requires { ⌜ FieldsPairing (now new) (now old) (now rows1) (now rows2) a fields ⌝ }
-    ensures { λ r. ⌜ FieldsDecided (now (new .entry)) (now (old .entry)) (now (rows1 .entry)) (now (rows2 .entry)) a fields required r ⌝ }
+    ensures { λ r. ⌜ FieldsFailing (now (new .entry)) (now (old .entry)) (now (rows1 .entry)) (now (rows2 .entry)) a fields required r ⌝ }
 {
     if fields == 0 {
-        return true;
+        return 0;
     }
     let mut left = row_at(rows2, fields).children;
     if wide_under(new, rows1, a, left) {
-        return carried_wide(new, old, rows1, rows2, a, fields, required);
+        return failing_wide(new, old, rows1, rows2, a, fields, required);
     }
     let mut row = fields + 1;
     while left > 0 {
         if !carried_field(new, old, rows1, rows2, a, row, required) {
-            return false;
+            return row;
         }
         row = row_at(rows2, row + 1).next;
         left -= 1;
     }
-    true
+    0
 }
 
 // The same where both have many names: each is looked up by an index.
-fn carried_wide(
+fn failing_wide(
     new: &[u8],
     old: &[u8],
     rows1: &[u32],
@@ -349,10 +349,10 @@ fn carried_wide(
     a: usize,
     fields: usize,
     required: bool,
-) -> bool
+) -> usize
     requires { ⌜ FieldsPairing (now new) (now old) (now rows1) (now rows2) a fields ⌝ }
     requires { ⌜ (0 < fields) × ManyNames (now new) (now rows1) a (wordOf (now rows2) fields 3) ⌝ }
-    ensures { λ r. ⌜ FieldsDecided (now (new .entry)) (now (old .entry)) (now (rows1 .entry)) (now (rows2 .entry)) a fields required r ⌝ }
+    ensures { λ r. ⌜ FieldsFailing (now (new .entry)) (now (old .entry)) (now (rows1 .entry)) (now (rows2 .entry)) a fields required r ⌝ }
 {
     let mut values = [0usize; 2048];
     match_under(new, rows1, a, old, rows2, fields, required, &mut values);
@@ -362,15 +362,15 @@ fn carried_wide(
     while i < count {
         let found = values[i];
         if !carried_found(new, old, rows1, rows2, a, found, row, required) {
-            return false;
+            return row;
         }
         row = row_at(rows2, row + 1).next;
         i += 1;
     }
-    true
+    0
 }
 
-// The same of one field, its name at row `row`: what the new one asks under it is carried, and a required name is required.
+// Whether it is carried to one field, its name at row `row`: what the new one asks under it is carried, and a required name is required.
 fn carried_field(
     new: &[u8],
     old: &[u8],

@@ -9,3 +9,14 @@ mod rows;
 
 pub use checking::check;
 pub use comparing::compare;
+// For a walk over two schemas:
+pub use comparing::failing_field;
+pub use comparing::find_under;
+pub use comparing::generic_at;
+pub use comparing::of_objects;
+pub use comparing::type_at;
+pub use names::Generic;
+pub use names::TypeName;
+pub use rows::Record;
+pub use rows::find;
+pub use rows::row_at;

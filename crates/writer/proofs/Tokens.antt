@@ -39,7 +39,7 @@ pub record TokenAt (s : List ℕ) (i : ℕ) (w : List ℕ) : Type 0 where
   pub tokens : Tokens s (tokenEnd s i) rest
 
 module _ {s : List ℕ} where
-  string-end : {i e : ℕ} → IsQuoted s i e → e ≡ stringEnd s i
+  pub string-end : {i e : ℕ} → IsQuoted s i e → e ≡ stringEnd s i
   string-end q = sym (ap endOf (q .ends))
 
   -- ---- what stands at i

@@ -6,3 +6,6 @@ mod runs;
 mod writing;
 
 pub use compacting::compact;
+// For the crates above: a string in its one spelling.
+pub use pieces::Piece;
+pub use pieces::write_string;

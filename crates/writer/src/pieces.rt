@@ -82,7 +82,7 @@ pub fn measure_string(text: &[u8], at: usize) -> Piece
 }
 
 // Writes it.
-fn write_string(text: &[u8], at: usize, out: &mut [u8]) -> Piece
+pub fn write_string(text: &[u8], at: usize, out: &mut [u8]) -> Piece
     requires { ⌜ IsQuoted (now text) at (stringEnd (now text) at) × (length (stringBytes (now text) at) ≤ length (now out)) ⌝ }
     ensures { λ r. ⌜ r ≡ piece (stringEnd (now (text .entry)) at) (stringBytes (now (text .entry)) at) ⌝ }
     ensures { λ _. ⌜ now (out .exit) ≡ over (stringBytes (now (text .entry)) at) (now (out .entry)) ⌝ }

@@ -28,28 +28,28 @@ use borrow.Fn.Kinds.{In}
 use borrow.Fn.PlainCycle.{Measures, is, falls, and}
 use Rattle.schema.proofs.comparing.carried.Reads as carried
 use Rattle.schema.proofs.comparing.carried.Kinds as carried-kinds
-use Rattle.schema.proofs.comparing.+carried+carried_field+carried_fields+carried_found+carried_to_array+carried_to_map+carried_to_object+carried_wide.Lts-carried as carried-lts
+use Rattle.schema.proofs.comparing.+carried+carried_field+carried_found+carried_to_array+carried_to_map+carried_to_object+failing_field+failing_wide.Lts-carried as carried-lts
 use Rattle.schema.proofs.comparing.carried_field.Reads as carried-field
 use Rattle.schema.proofs.comparing.carried_field.Kinds as carried-field-kinds
-use Rattle.schema.proofs.comparing.+carried+carried_field+carried_fields+carried_found+carried_to_array+carried_to_map+carried_to_object+carried_wide.Lts-carried_field as carried-field-lts
-use Rattle.schema.proofs.comparing.carried_fields.Reads as carried-fields
-use Rattle.schema.proofs.comparing.carried_fields.Kinds as carried-fields-kinds
-use Rattle.schema.proofs.comparing.+carried+carried_field+carried_fields+carried_found+carried_to_array+carried_to_map+carried_to_object+carried_wide.Lts-carried_fields as carried-fields-lts
+use Rattle.schema.proofs.comparing.+carried+carried_field+carried_found+carried_to_array+carried_to_map+carried_to_object+failing_field+failing_wide.Lts-carried_field as carried-field-lts
 use Rattle.schema.proofs.comparing.carried_found.Reads as carried-found
 use Rattle.schema.proofs.comparing.carried_found.Kinds as carried-found-kinds
-use Rattle.schema.proofs.comparing.+carried+carried_field+carried_fields+carried_found+carried_to_array+carried_to_map+carried_to_object+carried_wide.Lts-carried_found as carried-found-lts
+use Rattle.schema.proofs.comparing.+carried+carried_field+carried_found+carried_to_array+carried_to_map+carried_to_object+failing_field+failing_wide.Lts-carried_found as carried-found-lts
 use Rattle.schema.proofs.comparing.carried_to_array.Reads as carried-to-array
 use Rattle.schema.proofs.comparing.carried_to_array.Kinds as carried-to-array-kinds
-use Rattle.schema.proofs.comparing.+carried+carried_field+carried_fields+carried_found+carried_to_array+carried_to_map+carried_to_object+carried_wide.Lts-carried_to_array as carried-to-array-lts
+use Rattle.schema.proofs.comparing.+carried+carried_field+carried_found+carried_to_array+carried_to_map+carried_to_object+failing_field+failing_wide.Lts-carried_to_array as carried-to-array-lts
 use Rattle.schema.proofs.comparing.carried_to_map.Reads as carried-to-map
 use Rattle.schema.proofs.comparing.carried_to_map.Kinds as carried-to-map-kinds
-use Rattle.schema.proofs.comparing.+carried+carried_field+carried_fields+carried_found+carried_to_array+carried_to_map+carried_to_object+carried_wide.Lts-carried_to_map as carried-to-map-lts
+use Rattle.schema.proofs.comparing.+carried+carried_field+carried_found+carried_to_array+carried_to_map+carried_to_object+failing_field+failing_wide.Lts-carried_to_map as carried-to-map-lts
 use Rattle.schema.proofs.comparing.carried_to_object.Reads as carried-to-object
 use Rattle.schema.proofs.comparing.carried_to_object.Kinds as carried-to-object-kinds
-use Rattle.schema.proofs.comparing.+carried+carried_field+carried_fields+carried_found+carried_to_array+carried_to_map+carried_to_object+carried_wide.Lts-carried_to_object as carried-to-object-lts
-use Rattle.schema.proofs.comparing.carried_wide.Reads as carried-wide
-use Rattle.schema.proofs.comparing.carried_wide.Kinds as carried-wide-kinds
-use Rattle.schema.proofs.comparing.+carried+carried_field+carried_fields+carried_found+carried_to_array+carried_to_map+carried_to_object+carried_wide.Lts-carried_wide as carried-wide-lts
+use Rattle.schema.proofs.comparing.+carried+carried_field+carried_found+carried_to_array+carried_to_map+carried_to_object+failing_field+failing_wide.Lts-carried_to_object as carried-to-object-lts
+use Rattle.schema.proofs.comparing.failing_field.Reads as failing-field
+use Rattle.schema.proofs.comparing.failing_field.Kinds as failing-field-kinds
+use Rattle.schema.proofs.comparing.+carried+carried_field+carried_found+carried_to_array+carried_to_map+carried_to_object+failing_field+failing_wide.Lts-failing_field as failing-field-lts
+use Rattle.schema.proofs.comparing.failing_wide.Reads as failing-wide
+use Rattle.schema.proofs.comparing.failing_wide.Kinds as failing-wide-kinds
+use Rattle.schema.proofs.comparing.+carried+carried_field+carried_found+carried_to_array+carried_to_map+carried_to_object+failing_field+failing_wide.Lts-failing_wide as failing-wide-lts
 use Rattle.schema.proofs.comparing.carried_name.Reads as carried-name-reads
 use Rattle.schema.proofs.comparing.find_under.Reads as find-under-reads
 use Rattle.schema.proofs.comparing.generic_at.Reads as generic-at-reads
@@ -60,17 +60,14 @@ use Rattle.schema.proofs.comparing.type_at.Reads as type-at-reads
 use Rattle.schema.proofs.comparing.wide_under.Reads as wide-under-reads
 use Rattle.schema.proofs.rows.find.Reads as find-reads
 use Rattle.schema.proofs.rows.row_at.Reads as row-at-reads
-use Rattle.schema.proofs.comparing.+carried+carried_field+carried_fields+carried_found+carried_to_array+carried_to_map+carried_to_object+carried_wide.{statement}
-use Rattle.schema.proofs.comparing.+carried+carried_field+carried_fields+carried_found+carried_to_array+carried_to_map+carried_to_object+carried_wide.Tie.{close}
+use Rattle.schema.proofs.comparing.+carried+carried_field+carried_found+carried_to_array+carried_to_map+carried_to_object+failing_field+failing_wide.{statement}
+use Rattle.schema.proofs.comparing.+carried+carried_field+carried_found+carried_to_array+carried_to_map+carried_to_object+failing_field+failing_wide.Tie.{close}
 
 abbrev μ-carried : Measures 4 carried-kinds.ps ℕ
 μ-carried κs a = 3 * word (a .1 .1 .1 .0 .now) (a .1 .1 .1 .1 .1 .0) 4 + 1
 
 abbrev μ-carried-field : Measures 4 carried-field-kinds.ps ℕ
 μ-carried-field κs a = 3 * word (a .1 .1 .1 .0 .now) (a .1 .1 .1 .1 .1 .0 + 1) 4 + 3
-
-abbrev μ-carried-fields : Measures 4 carried-fields-kinds.ps ℕ
-μ-carried-fields κs a = 3 * partRows (a .1 .1 .1 .0 .now) (a .1 .1 .1 .1 .1 .0) + 1
 
 abbrev μ-carried-found : Measures 4 carried-found-kinds.ps ℕ
 μ-carried-found κs a = 3 * word (a .1 .1 .1 .0 .now) (a .1 .1 .1 .1 .1 .1 .0 + 1) 4 + 2
@@ -84,8 +81,11 @@ abbrev μ-carried-to-map : Measures 4 carried-to-map-kinds.ps ℕ
 abbrev μ-carried-to-object : Measures 4 carried-to-object-kinds.ps ℕ
 μ-carried-to-object κs a = 3 * word (a .1 .1 .1 .0 .now) (a .1 .1 .1 .1 .1 .0) 4
 
-abbrev μ-carried-wide : Measures 4 carried-wide-kinds.ps ℕ
-μ-carried-wide κs a = 3 * partRows (a .1 .1 .1 .0 .now) (a .1 .1 .1 .1 .1 .0)
+abbrev μ-failing-field : Measures 4 failing-field-kinds.ps ℕ
+μ-failing-field κs a = 3 * partRows (a .1 .1 .1 .0 .now) (a .1 .1 .1 .1 .1 .0) + 1
+
+abbrev μ-failing-wide : Measures 4 failing-wide-kinds.ps ℕ
+μ-failing-wide κs a = 3 * partRows (a .1 .1 .1 .0 .now) (a .1 .1 .1 .1 .1 .0)
 
 abbrev carried-at : ℕ → In 4 carried-kinds.ps
 carried-at t = and 4 carried-kinds.ps (is 4 carried-kinds.ps μ-carried t) carried.Pre
@@ -98,12 +98,6 @@ carried-field-at t = and 4 carried-field-kinds.ps (is 4 carried-field-kinds.ps �
 
 abbrev carried-field-below : ℕ → In 4 carried-field-kinds.ps
 carried-field-below t = and 4 carried-field-kinds.ps (falls 4 carried-field-kinds.ps _<_ μ-carried-field t) carried-field.Pre
-
-abbrev carried-fields-at : ℕ → In 4 carried-fields-kinds.ps
-carried-fields-at t = and 4 carried-fields-kinds.ps (is 4 carried-fields-kinds.ps μ-carried-fields t) carried-fields.Pre
-
-abbrev carried-fields-below : ℕ → In 4 carried-fields-kinds.ps
-carried-fields-below t = and 4 carried-fields-kinds.ps (falls 4 carried-fields-kinds.ps _<_ μ-carried-fields t) carried-fields.Pre
 
 abbrev carried-found-at : ℕ → In 4 carried-found-kinds.ps
 carried-found-at t = and 4 carried-found-kinds.ps (is 4 carried-found-kinds.ps μ-carried-found t) carried-found.Pre
@@ -129,11 +123,17 @@ carried-to-object-at t = and 4 carried-to-object-kinds.ps (is 4 carried-to-objec
 abbrev carried-to-object-below : ℕ → In 4 carried-to-object-kinds.ps
 carried-to-object-below t = and 4 carried-to-object-kinds.ps (falls 4 carried-to-object-kinds.ps _<_ μ-carried-to-object t) carried-to-object.Pre
 
-abbrev carried-wide-at : ℕ → In 4 carried-wide-kinds.ps
-carried-wide-at t = and 4 carried-wide-kinds.ps (is 4 carried-wide-kinds.ps μ-carried-wide t) carried-wide.Pre
+abbrev failing-field-at : ℕ → In 4 failing-field-kinds.ps
+failing-field-at t = and 4 failing-field-kinds.ps (is 4 failing-field-kinds.ps μ-failing-field t) failing-field.Pre
 
-abbrev carried-wide-below : ℕ → In 4 carried-wide-kinds.ps
-carried-wide-below t = and 4 carried-wide-kinds.ps (falls 4 carried-wide-kinds.ps _<_ μ-carried-wide t) carried-wide.Pre
+abbrev failing-field-below : ℕ → In 4 failing-field-kinds.ps
+failing-field-below t = and 4 failing-field-kinds.ps (falls 4 failing-field-kinds.ps _<_ μ-failing-field t) failing-field.Pre
+
+abbrev failing-wide-at : ℕ → In 4 failing-wide-kinds.ps
+failing-wide-at t = and 4 failing-wide-kinds.ps (is 4 failing-wide-kinds.ps μ-failing-wide t) failing-wide.Pre
+
+abbrev failing-wide-below : ℕ → In 4 failing-wide-kinds.ps
+failing-wide-below t = and 4 failing-wide-kinds.ps (falls 4 failing-wide-kinds.ps _<_ μ-failing-wide t) failing-wide.Pre
 
 -- ---- carried
 
@@ -275,110 +275,6 @@ module _ (t : ℕ) where
 
   carried-field-returns : carried-field-lts.Need-returns (carried-field-claims t) (carried-field-at t) carried-field.Post
   carried-field-returns c = c .carried-found .ensures
-
--- ---- carried_fields
-
-abbrev carried-fields-claims : ℕ → carried-fields-lts.Claims
-carried-fields-claims t = (
-  row-at-reads.Asked,
-  row-at-reads.Learnt,
-  wide-under-reads.Asked,
-  wide-under-reads.Learnt,
-  carried-wide-below t,
-  carried-wide.Post,
-  carried-field-below t,
-  carried-field.Post,
-)
-
-abbrev carried-fields-Inv-loop : carried-fields-lts.InvT-loop
-carried-fields-Inv-loop new old rows1 rows2 a fields required left₀ row₀ left row = InFields new old rows1 rows2 a fields required row left
-
-abbrev carried-fields-μ-loop : carried-fields-lts.MeasureT-loop
-carried-fields-μ-loop new old rows1 rows2 a fields required left₀ row₀ left row = left
-
-module _ (t : ℕ) where
-  -- fields that are there; the entry from there, and from a turn
-  abbrev fields-entry : carried-fields-lts.Else1 (carried-fields-claims t) (carried-fields-at t) carried-fields.Post carried-fields-Inv-loop carried-fields-μ-loop
-      → carried-fields-lts.Start (carried-fields-claims t) (carried-fields-at t) carried-fields.Post carried-fields-Inv-loop carried-fields-μ-loop
-  fields-entry c = c .before .before .before .before .before
-
-  abbrev turn-start : carried-fields-lts.In-loop (carried-fields-claims t) (carried-fields-at t) carried-fields.Post carried-fields-Inv-loop carried-fields-μ-loop
-      → carried-fields-lts.Else1 (carried-fields-claims t) (carried-fields-at t) carried-fields.Post carried-fields-Inv-loop carried-fields-μ-loop
-  turn-start c = c .before .before .before .before .before
-
-  fields-row : (c : carried-fields-lts.Else1 (carried-fields-claims t) (carried-fields-at t) carried-fields.Post carried-fields-Inv-loop carried-fields-μ-loop)
-      → 0 < fields-entry c .args .fields
-  fields-row c = omega (arith, c .if1 .left)
-
-  fields-object : (c : carried-fields-lts.Else1 (carried-fields-claims t) (carried-fields-at t) carried-fields.Post carried-fields-Inv-loop carried-fields-μ-loop) →
-      let a = fields-entry c .args in
-      ObjectRow (a .old .now) (a .rows2 .now) (a .fields)
-  fields-object c = part-object (fields-entry c .pre .1 .old .part) (fields-row c)
-
-  -- one of them
-  fields-one : (c : carried-fields-lts.In-loop (carried-fields-claims t) (carried-fields-at t) carried-fields.Post carried-fields-Inv-loop carried-fields-μ-loop) →
-      let a = fields-entry (turn-start c) .args in
-      FieldPairing (a .new .now) (a .old .now) (a .rows1 .now) (a .rows2 .now) (a .a) (c .before .loop .row)
-  fields-one c = field-pair (c .before .loop .inv) (c .loop-test .taken)
-
-  fields-less : (c : carried-fields-lts.In-loop (carried-fields-claims t) (carried-fields-at t) carried-fields.Post carried-fields-Inv-loop carried-fields-μ-loop) →
-      3 * word (fields-entry (turn-start c) .args .rows2 .now) (c .before .loop .row + 1) 4 + 3 < t
-  fields-less c =
-      let s = fields-entry (turn-start c) in
-      let rows = part-rows (s .args .rows2 .now) (s .args .fields) (fields-row (turn-start c)) in
-      omega (arith, field-less (c .before .loop .inv) (c .loop-test .taken), rows, s .pre .0)
-
-  carried-fields-returns : carried-fields-lts.Need-returns (carried-fields-claims t) (carried-fields-at t) carried-fields.Post carried-fields-Inv-loop carried-fields-μ-loop
-  carried-fields-returns c = fields-none (c .if1 .taken)
-
-  carried-fields-row-at-requires : carried-fields-lts.Need-row-at-requires (carried-fields-claims t) (carried-fields-at t) carried-fields.Post carried-fields-Inv-loop carried-fields-μ-loop
-  carried-fields-row-at-requires c κs = in-table (as-row (fields-object c))
-
-  carried-fields-wide-under-requires : carried-fields-lts.Need-wide-under-requires (carried-fields-claims t) (carried-fields-at t) carried-fields.Post carried-fields-Inv-loop carried-fields-μ-loop
-  carried-fields-wide-under-requires c κs = fields-entry (c .before) .pre .1 .new
-
-  carried-fields-carried-wide-requires : carried-fields-lts.Need-carried-wide-requires (carried-fields-claims t) (carried-fields-at t) carried-fields.Post carried-fields-Inv-loop carried-fields-μ-loop
-  carried-fields-carried-wide-requires c κs =
-      let e = c .before .before .before in
-      let s = fields-entry e in
-      (omega (arith, s .pre .0), (s .pre .1, (fields-row e, rw (c .before .before .row-at .ensures .children) at (c .before .wide-under .ensures (c .if2 .taken)))))
-
-  carried-fields-returns-2 : carried-fields-lts.Need-returns-2 (carried-fields-claims t) (carried-fields-at t) carried-fields.Post carried-fields-Inv-loop carried-fields-μ-loop
-  carried-fields-returns-2 c = c .carried-wide .ensures
-
-  carried-fields-add-row : carried-fields-lts.Need-add-row (carried-fields-claims t) (carried-fields-at t) carried-fields.Post carried-fields-Inv-loop carried-fields-μ-loop
-  carried-fields-add-row c = let e = c .before .before .before in omega (arith, in-table (as-row (fields-object e)) .here, fields-entry e .good)
-
-  carried-fields-loop-holds : carried-fields-lts.Need-loop-holds (carried-fields-claims t) (carried-fields-at t) carried-fields.Post carried-fields-Inv-loop carried-fields-μ-loop
-  carried-fields-loop-holds c = let e = c .before .before .before in fields-start (fields-entry e .pre .1) (fields-row e) (c .before .before .row-at .ensures .children)
-
-  carried-fields-carried-field-requires : carried-fields-lts.Need-carried-field-requires (carried-fields-claims t) (carried-fields-at t) carried-fields.Post carried-fields-Inv-loop carried-fields-μ-loop
-  carried-fields-carried-field-requires c κs = (fields-less c, fields-one c)
-
-  carried-fields-returns-3 : carried-fields-lts.Need-returns-3 (carried-fields-claims t) (carried-fields-at t) carried-fields.Post carried-fields-Inv-loop carried-fields-μ-loop
-  carried-fields-returns-3 c =
-      let p = c .before .before in
-      field-fails (p .before .loop .inv) (p .loop-test .taken) (c .before .carried-field .ensures) (not-true _ (c .if3 .taken))
-
-  carried-fields-add-row-at : carried-fields-lts.Need-add-row-at (carried-fields-claims t) (carried-fields-at t) carried-fields.Post carried-fields-Inv-loop carried-fields-μ-loop
-  carried-fields-add-row-at c = let p = c .before .before in omega (arith, in-table (fields-one p .old .row) .here, fields-entry (turn-start p) .good)
-
-  carried-fields-row-at-requires-2 : carried-fields-lts.Need-row-at-requires-2 (carried-fields-claims t) (carried-fields-at t) carried-fields.Post carried-fields-Inv-loop carried-fields-μ-loop
-  carried-fields-row-at-requires-2 c κs = in-table (fields-one (c .before .before) .old .row)
-
-  carried-fields-sub-left : carried-fields-lts.Need-sub-left (carried-fields-claims t) (carried-fields-at t) carried-fields.Post carried-fields-Inv-loop carried-fields-μ-loop
-  carried-fields-sub-left c = omega arith
-
-  carried-fields-loop-less : carried-fields-lts.Need-loop-less (carried-fields-claims t) (carried-fields-at t) carried-fields.Post carried-fields-Inv-loop carried-fields-μ-loop
-  carried-fields-loop-less c = omega arith
-
-  carried-fields-loop-again : carried-fields-lts.Need-loop-again (carried-fields-claims t) (carried-fields-at t) carried-fields.Post carried-fields-Inv-loop carried-fields-μ-loop
-  carried-fields-loop-again c =
-      let p = c .before .before .before in
-      field-next (p .before .loop .inv) (p .loop-test .taken) (c .before .before .carried-field .ensures) (not-false _ (c .before .if3 .left)) (c .row-at2 .ensures)
-
-  carried-fields-returns-4 : carried-fields-lts.Need-returns-4 (carried-fields-claims t) (carried-fields-at t) carried-fields.Post carried-fields-Inv-loop carried-fields-μ-loop
-  carried-fields-returns-4 c = fields-end (c .before .loop .inv) (c .loop-test .left)
 
 -- ---- carried_found
 
@@ -567,7 +463,7 @@ module _ (t : ℕ) where
 -- ---- carried_to_object
 
 abbrev carried-to-object-claims : ℕ → carried-to-object-lts.Claims
-carried-to-object-claims t = (of-objects-reads.Asked, of-objects-reads.Learnt, find-reads.Asked, find-reads.Learnt, carried-fields-below t, carried-fields.Post)
+carried-to-object-claims t = (of-objects-reads.Asked, of-objects-reads.Learnt, find-reads.Asked, find-reads.Learnt, failing-field-below t, failing-field.Post)
 
 module _ (t : ℕ) where
   -- the body's row
@@ -599,7 +495,9 @@ module _ (t : ℕ) where
   carried-to-object-of-objects-requires c κs = c .before .before .before .before .pre .1 .given .new
 
   carried-to-object-returns : carried-to-object-lts.Need-returns (carried-to-object-claims t) (carried-to-object-at t) carried-to-object.Post
-  carried-to-object-returns c = object-other (c .before .before .before .before .before .before .pre .1) (rw (not-true (c .before .of-objects .result) (c .if1 .taken)) at (c .before .of-objects .ensures))
+  carried-to-object-returns c =
+      let o = c .before .of-objects in
+      object-other (c .before .before .before .before .before .before .pre .1) (rw (not-true (o .result) (c .if1 .taken)) at (o .ensures))
 
   carried-to-object-add-find : carried-to-object-lts.Need-add-find (carried-to-object-claims t) (carried-to-object-at t) carried-to-object.Post
   carried-to-object-add-find c = object-fits (object-entry c)
@@ -610,8 +508,8 @@ module _ (t : ℕ) where
   carried-to-object-find-requires : carried-to-object-lts.Need-find-requires (carried-to-object-claims t) (carried-to-object-at t) carried-to-object.Post
   carried-to-object-find-requires c κs = object-row (object-entry (c .before) .pre .1)
 
-  carried-to-object-carried-fields-requires : carried-to-object-lts.Need-carried-fields-requires (carried-to-object-claims t) (carried-to-object-at t) carried-to-object.Post
-  carried-to-object-carried-fields-requires c κs =
+  carried-to-object-failing-field-requires : carried-to-object-lts.Need-failing-field-requires (carried-to-object-claims t) (carried-to-object-at t) carried-to-object.Post
+  carried-to-object-failing-field-requires c κs =
       let s = object-entry (c .before .before) in
       (omega (arith, object-less (s .pre .1) (object-required c), s .pre .0), required-pair (s .pre .1) (object-required c) (s .pre .1 .given))
 
@@ -619,7 +517,7 @@ module _ (t : ℕ) where
   carried-to-object-returns-2 c =
       let f = c .before .before in
       let e = f .before .before in
-      object-fails (object-entry e .pre .1) (object-objects e) (object-required f) (c .before .carried-fields .ensures) (not-true _ (c .if2 .taken))
+      object-fails (object-entry e .pre .1) (object-objects e) (object-required f) (c .before .failing-field .ensures) (c .if2 .taken)
 
   carried-to-object-add-find-2 : carried-to-object-lts.Need-add-find-2 (carried-to-object-claims t) (carried-to-object-at t) carried-to-object.Post
   carried-to-object-add-find-2 c = object-fits (object-entry (c .before .before .before .before))
@@ -630,8 +528,8 @@ module _ (t : ℕ) where
   carried-to-object-find-requires-2 : carried-to-object-lts.Need-find-requires-2 (carried-to-object-claims t) (carried-to-object-at t) carried-to-object.Post
   carried-to-object-find-requires-2 c κs = object-row (object-entry (c .before .before .before .before .before) .pre .1)
 
-  carried-to-object-carried-fields-requires-2 : carried-to-object-lts.Need-carried-fields-requires-2 (carried-to-object-claims t) (carried-to-object-at t) carried-to-object.Post
-  carried-to-object-carried-fields-requires-2 c κs =
+  carried-to-object-failing-field-requires-2 : carried-to-object-lts.Need-failing-field-requires-2 (carried-to-object-claims t) (carried-to-object-at t) carried-to-object.Post
+  carried-to-object-failing-field-requires-2 c κs =
       let s = object-entry (c .before .before .before .before .before .before) in
       (omega (arith, object-less (s .pre .1) (object-optional c), s .pre .0), optional-pair (s .pre .1) (object-optional c) (s .pre .1 .given))
 
@@ -640,12 +538,116 @@ module _ (t : ℕ) where
       let i = c .before .before .before in
       let f = i .before .before in
       let e = f .before .before in
-      object-ends (object-entry e .pre .1) (object-objects e) (object-required f) (i .before .carried-fields .ensures) (not-false _ (i .if2 .left)) (object-optional (c .before)) (c .carried-fields2 .ensures)
+      object-ends (object-entry e .pre .1) (object-objects e) (object-required f) (i .before .failing-field .ensures) (i .if2 .left) (object-optional (c .before)) (c .failing-field2 .ensures)
 
--- ---- carried_wide
+-- ---- failing_field
 
-abbrev carried-wide-claims : ℕ → carried-wide-lts.Claims
-carried-wide-claims t = (
+abbrev failing-field-claims : ℕ → failing-field-lts.Claims
+failing-field-claims t = (
+  row-at-reads.Asked,
+  row-at-reads.Learnt,
+  wide-under-reads.Asked,
+  wide-under-reads.Learnt,
+  failing-wide-below t,
+  failing-wide.Post,
+  carried-field-below t,
+  carried-field.Post,
+)
+
+abbrev failing-field-Inv-loop : failing-field-lts.InvT-loop
+failing-field-Inv-loop new old rows1 rows2 a fields required left₀ row₀ left row = InFields new old rows1 rows2 a fields required row left
+
+abbrev failing-field-μ-loop : failing-field-lts.MeasureT-loop
+failing-field-μ-loop new old rows1 rows2 a fields required left₀ row₀ left row = left
+
+module _ (t : ℕ) where
+  -- fields that are there; the entry from there, and from a turn
+  abbrev fields-entry : failing-field-lts.Else1 (failing-field-claims t) (failing-field-at t) failing-field.Post failing-field-Inv-loop failing-field-μ-loop
+      → failing-field-lts.Start (failing-field-claims t) (failing-field-at t) failing-field.Post failing-field-Inv-loop failing-field-μ-loop
+  fields-entry c = c .before .before .before .before .before
+
+  abbrev turn-start : failing-field-lts.In-loop (failing-field-claims t) (failing-field-at t) failing-field.Post failing-field-Inv-loop failing-field-μ-loop
+      → failing-field-lts.Else1 (failing-field-claims t) (failing-field-at t) failing-field.Post failing-field-Inv-loop failing-field-μ-loop
+  turn-start c = c .before .before .before .before .before
+
+  fields-row : (c : failing-field-lts.Else1 (failing-field-claims t) (failing-field-at t) failing-field.Post failing-field-Inv-loop failing-field-μ-loop)
+      → 0 < fields-entry c .args .fields
+  fields-row c = omega (arith, c .if1 .left)
+
+  fields-object : (c : failing-field-lts.Else1 (failing-field-claims t) (failing-field-at t) failing-field.Post failing-field-Inv-loop failing-field-μ-loop) →
+      let a = fields-entry c .args in
+      ObjectRow (a .old .now) (a .rows2 .now) (a .fields)
+  fields-object c = part-object (fields-entry c .pre .1 .old .part) (fields-row c)
+
+  -- one of them
+  fields-one : (c : failing-field-lts.In-loop (failing-field-claims t) (failing-field-at t) failing-field.Post failing-field-Inv-loop failing-field-μ-loop) →
+      let a = fields-entry (turn-start c) .args in
+      FieldPairing (a .new .now) (a .old .now) (a .rows1 .now) (a .rows2 .now) (a .a) (c .before .loop .row)
+  fields-one c = field-pair (c .before .loop .inv) (c .loop-test .taken)
+
+  fields-less : (c : failing-field-lts.In-loop (failing-field-claims t) (failing-field-at t) failing-field.Post failing-field-Inv-loop failing-field-μ-loop) →
+      3 * word (fields-entry (turn-start c) .args .rows2 .now) (c .before .loop .row + 1) 4 + 3 < t
+  fields-less c =
+      let s = fields-entry (turn-start c) in
+      let rows = part-rows (s .args .rows2 .now) (s .args .fields) (fields-row (turn-start c)) in
+      omega (arith, field-less (c .before .loop .inv) (c .loop-test .taken), rows, s .pre .0)
+
+  failing-field-returns : failing-field-lts.Need-returns (failing-field-claims t) (failing-field-at t) failing-field.Post failing-field-Inv-loop failing-field-μ-loop
+  failing-field-returns c = fields-none (c .if1 .taken)
+
+  failing-field-row-at-requires : failing-field-lts.Need-row-at-requires (failing-field-claims t) (failing-field-at t) failing-field.Post failing-field-Inv-loop failing-field-μ-loop
+  failing-field-row-at-requires c κs = in-table (as-row (fields-object c))
+
+  failing-field-wide-under-requires : failing-field-lts.Need-wide-under-requires (failing-field-claims t) (failing-field-at t) failing-field.Post failing-field-Inv-loop failing-field-μ-loop
+  failing-field-wide-under-requires c κs = fields-entry (c .before) .pre .1 .new
+
+  failing-field-failing-wide-requires : failing-field-lts.Need-failing-wide-requires (failing-field-claims t) (failing-field-at t) failing-field.Post failing-field-Inv-loop failing-field-μ-loop
+  failing-field-failing-wide-requires c κs =
+      let e = c .before .before .before in
+      let s = fields-entry e in
+      (omega (arith, s .pre .0), (s .pre .1, (fields-row e, rw (c .before .before .row-at .ensures .children) at (c .before .wide-under .ensures (c .if2 .taken)))))
+
+  failing-field-returns-2 : failing-field-lts.Need-returns-2 (failing-field-claims t) (failing-field-at t) failing-field.Post failing-field-Inv-loop failing-field-μ-loop
+  failing-field-returns-2 c = c .failing-wide .ensures
+
+  failing-field-add-row : failing-field-lts.Need-add-row (failing-field-claims t) (failing-field-at t) failing-field.Post failing-field-Inv-loop failing-field-μ-loop
+  failing-field-add-row c = let e = c .before .before .before in omega (arith, in-table (as-row (fields-object e)) .here, fields-entry e .good)
+
+  failing-field-loop-holds : failing-field-lts.Need-loop-holds (failing-field-claims t) (failing-field-at t) failing-field.Post failing-field-Inv-loop failing-field-μ-loop
+  failing-field-loop-holds c = let e = c .before .before .before in fields-start (fields-entry e .pre .1) (fields-row e) (c .before .before .row-at .ensures .children)
+
+  failing-field-carried-field-requires : failing-field-lts.Need-carried-field-requires (failing-field-claims t) (failing-field-at t) failing-field.Post failing-field-Inv-loop failing-field-μ-loop
+  failing-field-carried-field-requires c κs = (fields-less c, fields-one c)
+
+  failing-field-returns-3 : failing-field-lts.Need-returns-3 (failing-field-claims t) (failing-field-at t) failing-field.Post failing-field-Inv-loop failing-field-μ-loop
+  failing-field-returns-3 c =
+      let p = c .before .before in
+      field-fails (p .before .loop .inv) (p .loop-test .taken) (c .before .carried-field .ensures) (not-true _ (c .if3 .taken))
+
+  failing-field-add-row-at : failing-field-lts.Need-add-row-at (failing-field-claims t) (failing-field-at t) failing-field.Post failing-field-Inv-loop failing-field-μ-loop
+  failing-field-add-row-at c = let p = c .before .before in omega (arith, in-table (fields-one p .old .row) .here, fields-entry (turn-start p) .good)
+
+  failing-field-row-at-requires-2 : failing-field-lts.Need-row-at-requires-2 (failing-field-claims t) (failing-field-at t) failing-field.Post failing-field-Inv-loop failing-field-μ-loop
+  failing-field-row-at-requires-2 c κs = in-table (fields-one (c .before .before) .old .row)
+
+  failing-field-sub-left : failing-field-lts.Need-sub-left (failing-field-claims t) (failing-field-at t) failing-field.Post failing-field-Inv-loop failing-field-μ-loop
+  failing-field-sub-left c = omega arith
+
+  failing-field-loop-less : failing-field-lts.Need-loop-less (failing-field-claims t) (failing-field-at t) failing-field.Post failing-field-Inv-loop failing-field-μ-loop
+  failing-field-loop-less c = omega arith
+
+  failing-field-loop-again : failing-field-lts.Need-loop-again (failing-field-claims t) (failing-field-at t) failing-field.Post failing-field-Inv-loop failing-field-μ-loop
+  failing-field-loop-again c =
+      let p = c .before .before .before in
+      field-next (p .before .loop .inv) (p .loop-test .taken) (c .before .before .carried-field .ensures) (not-false _ (c .before .if3 .left)) (c .row-at2 .ensures)
+
+  failing-field-returns-4 : failing-field-lts.Need-returns-4 (failing-field-claims t) (failing-field-at t) failing-field.Post failing-field-Inv-loop failing-field-μ-loop
+  failing-field-returns-4 c = fields-end (c .before .loop .inv) (c .loop-test .left)
+
+-- ---- failing_wide
+
+abbrev failing-wide-claims : ℕ → failing-wide-lts.Claims
+failing-wide-claims t = (
   match-under-reads.Asked,
   match-under-reads.Learnt,
   row-at-reads.Asked,
@@ -654,107 +656,107 @@ carried-wide-claims t = (
   carried-found.Post,
 )
 
-abbrev carried-wide-Inv-loop : carried-wide-lts.InvT-loop
-carried-wide-Inv-loop new old rows1 rows2 a fields required values count i₀ row₀ i row = InWide new old rows1 rows2 a fields required values count i row
+abbrev failing-wide-Inv-loop : failing-wide-lts.InvT-loop
+failing-wide-Inv-loop new old rows1 rows2 a fields required values count i₀ row₀ i row = InWide new old rows1 rows2 a fields required values count i row
 
-abbrev carried-wide-μ-loop : carried-wide-lts.MeasureT-loop
-carried-wide-μ-loop new old rows1 rows2 a fields required values count i₀ row₀ i row = count - i
+abbrev failing-wide-μ-loop : failing-wide-lts.MeasureT-loop
+failing-wide-μ-loop new old rows1 rows2 a fields required values count i₀ row₀ i row = count - i
 
 module _ (t : ℕ) where
   -- the old fields; the entry, from before the loop and from a turn
-  wide-object : (c : carried-wide-lts.Start (carried-wide-claims t) (carried-wide-at t) carried-wide.Post carried-wide-Inv-loop carried-wide-μ-loop) →
+  wide-object : (c : failing-wide-lts.Start (failing-wide-claims t) (failing-wide-at t) failing-wide.Post failing-wide-Inv-loop failing-wide-μ-loop) →
       ObjectRow (c .args .old .now) (c .args .rows2 .now) (c .args .fields)
   wide-object c = part-object (c .pre .1 .0 .old .part) (c .pre .1 .1 .0)
 
-  abbrev wide-begin : carried-wide-lts.After-struct-known (carried-wide-claims t) (carried-wide-at t) carried-wide.Post carried-wide-Inv-loop carried-wide-μ-loop
-      → carried-wide-lts.Start (carried-wide-claims t) (carried-wide-at t) carried-wide.Post carried-wide-Inv-loop carried-wide-μ-loop
+  abbrev wide-begin : failing-wide-lts.After-struct-known (failing-wide-claims t) (failing-wide-at t) failing-wide.Post failing-wide-Inv-loop failing-wide-μ-loop
+      → failing-wide-lts.Start (failing-wide-claims t) (failing-wide-at t) failing-wide.Post failing-wide-Inv-loop failing-wide-μ-loop
   wide-begin c = c .before .before .before .before .before .before .before .before
 
-  abbrev wide-entry : carried-wide-lts.In-loop (carried-wide-claims t) (carried-wide-at t) carried-wide.Post carried-wide-Inv-loop carried-wide-μ-loop
-      → carried-wide-lts.Start (carried-wide-claims t) (carried-wide-at t) carried-wide.Post carried-wide-Inv-loop carried-wide-μ-loop
+  abbrev wide-entry : failing-wide-lts.In-loop (failing-wide-claims t) (failing-wide-at t) failing-wide.Post failing-wide-Inv-loop failing-wide-μ-loop
+      → failing-wide-lts.Start (failing-wide-claims t) (failing-wide-at t) failing-wide.Post failing-wide-Inv-loop failing-wide-μ-loop
   wide-entry c = wide-begin (c .before .before)
 
   -- one of them
-  wide-one : (c : carried-wide-lts.In-loop (carried-wide-claims t) (carried-wide-at t) carried-wide.Post carried-wide-Inv-loop carried-wide-μ-loop) →
+  wide-one : (c : failing-wide-lts.In-loop (failing-wide-claims t) (failing-wide-at t) failing-wide.Post failing-wide-Inv-loop failing-wide-μ-loop) →
       let a = wide-entry c .args in
       FieldPairing (a .new .now) (a .old .now) (a .rows1 .now) (a .rows2 .now) (a .a) (c .before .loop .row)
   wide-one c = field-pair (c .before .loop .inv .ahead) (wide-some (c .before .loop .inv) (c .loop-test .taken))
 
-  wide-less : (c : carried-wide-lts.In-loop (carried-wide-claims t) (carried-wide-at t) carried-wide.Post carried-wide-Inv-loop carried-wide-μ-loop) →
+  wide-less : (c : failing-wide-lts.In-loop (failing-wide-claims t) (failing-wide-at t) failing-wide.Post failing-wide-Inv-loop failing-wide-μ-loop) →
       3 * word (wide-entry c .args .rows2 .now) (c .before .loop .row + 1) 4 + 2 < t
   wide-less c =
       let s = wide-entry c in
       let rows = part-rows (s .args .rows2 .now) (s .args .fields) (s .pre .1 .1 .0) in
       omega (arith, field-less (c .before .loop .inv .ahead) (wide-some (c .before .loop .inv) (c .loop-test .taken)), rows, s .pre .0)
 
-  carried-wide-match-under-requires : carried-wide-lts.Need-match-under-requires (carried-wide-claims t) (carried-wide-at t) carried-wide.Post carried-wide-Inv-loop carried-wide-μ-loop
-  carried-wide-match-under-requires c κs =
+  failing-wide-match-under-requires : failing-wide-lts.Need-match-under-requires (failing-wide-claims t) (failing-wide-at t) failing-wide.Post failing-wide-Inv-loop failing-wide-μ-loop
+  failing-wide-match-under-requires c κs =
       let s = c .before .before .before .before .before in
       let many = s .pre .1 .1 .1 in
       ((s .pre .1 .0 .new, many .is), (wide-object s, (many .few, refl)))
 
-  carried-wide-row-at-requires : carried-wide-lts.Need-row-at-requires (carried-wide-claims t) (carried-wide-at t) carried-wide.Post carried-wide-Inv-loop carried-wide-μ-loop
-  carried-wide-row-at-requires c κs = in-table (as-row (wide-object (c .before .before .before .before .before .before)))
+  failing-wide-row-at-requires : failing-wide-lts.Need-row-at-requires (failing-wide-claims t) (failing-wide-at t) failing-wide.Post failing-wide-Inv-loop failing-wide-μ-loop
+  failing-wide-row-at-requires c κs = in-table (as-row (wide-object (c .before .before .before .before .before .before)))
 
-  carried-wide-cast-count : carried-wide-lts.Need-cast-count (carried-wide-claims t) (carried-wide-at t) carried-wide.Post carried-wide-Inv-loop carried-wide-μ-loop
-  carried-wide-cast-count c = search needs
+  failing-wide-cast-count : failing-wide-lts.Need-cast-count (failing-wide-claims t) (failing-wide-at t) failing-wide.Post failing-wide-Inv-loop failing-wide-μ-loop
+  failing-wide-cast-count c = search needs
 
-  carried-wide-add-row : carried-wide-lts.Need-add-row (carried-wide-claims t) (carried-wide-at t) carried-wide.Post carried-wide-Inv-loop carried-wide-μ-loop
-  carried-wide-add-row c = let s = wide-begin c in omega (arith, in-table (as-row (wide-object s)) .here, s .good)
+  failing-wide-add-row : failing-wide-lts.Need-add-row (failing-wide-claims t) (failing-wide-at t) failing-wide.Post failing-wide-Inv-loop failing-wide-μ-loop
+  failing-wide-add-row c = let s = wide-begin c in omega (arith, in-table (as-row (wide-object s)) .here, s .good)
 
-  carried-wide-loop-holds : carried-wide-lts.Need-loop-holds (carried-wide-claims t) (carried-wide-at t) carried-wide.Post carried-wide-Inv-loop carried-wide-μ-loop
-  carried-wide-loop-holds c =
+  failing-wide-loop-holds : failing-wide-lts.Need-loop-holds (failing-wide-claims t) (failing-wide-at t) failing-wide.Post failing-wide-Inv-loop failing-wide-μ-loop
+  failing-wide-loop-holds c =
       let s = wide-begin c in
       let e = c .before .row-at .ensures .children in
       wide-start (s .pre .1 .0) (s .pre .1 .1 .0) e (omega (arith, e, s .pre .1 .1 .1 .few)) (c .before .before .match-under .ensures)
 
-  carried-wide-mul-found : carried-wide-lts.Need-mul-found (carried-wide-claims t) (carried-wide-at t) carried-wide.Post carried-wide-Inv-loop carried-wide-μ-loop
-  carried-wide-mul-found c = omega (arith, c .before .loop .inv .few, c .loop-test .taken)
+  failing-wide-mul-found : failing-wide-lts.Need-mul-found (failing-wide-claims t) (failing-wide-at t) failing-wide.Post failing-wide-Inv-loop failing-wide-μ-loop
+  failing-wide-mul-found c = omega (arith, c .before .loop .inv .few, c .loop-test .taken)
 
-  carried-wide-array-read-found : carried-wide-lts.Need-array-read-found (carried-wide-claims t) (carried-wide-at t) carried-wide.Post carried-wide-Inv-loop carried-wide-μ-loop
-  carried-wide-array-read-found c = omega (arith, c .before .loop .inv .few, c .loop-test .taken)
+  failing-wide-array-read-found : failing-wide-lts.Need-array-read-found (failing-wide-claims t) (failing-wide-at t) failing-wide.Post failing-wide-Inv-loop failing-wide-μ-loop
+  failing-wide-array-read-found c = omega (arith, c .before .loop .inv .few, c .loop-test .taken)
 
-  carried-wide-carried-found-requires : carried-wide-lts.Need-carried-found-requires (carried-wide-claims t) (carried-wide-at t) carried-wide.Post carried-wide-Inv-loop carried-wide-μ-loop
-  carried-wide-carried-found-requires c κs = (wide-less c, (wide-one c, wide-found (c .before .loop .inv) (c .loop-test .taken)))
+  failing-wide-carried-found-requires : failing-wide-lts.Need-carried-found-requires (failing-wide-claims t) (failing-wide-at t) failing-wide.Post failing-wide-Inv-loop failing-wide-μ-loop
+  failing-wide-carried-found-requires c κs = (wide-less c, (wide-one c, wide-found (c .before .loop .inv) (c .loop-test .taken)))
 
-  carried-wide-returns : carried-wide-lts.Need-returns (carried-wide-claims t) (carried-wide-at t) carried-wide.Post carried-wide-Inv-loop carried-wide-μ-loop
-  carried-wide-returns c =
+  failing-wide-returns : failing-wide-lts.Need-returns (failing-wide-claims t) (failing-wide-at t) failing-wide.Post failing-wide-Inv-loop failing-wide-μ-loop
+  failing-wide-returns c =
       let p = c .before .before in
       let a = p .before .loop .inv in
       field-fails (a .ahead) (wide-some a (p .loop-test .taken)) (c .before .carried-found .ensures) (not-true _ (c .if1 .taken))
 
-  carried-wide-add-row-at : carried-wide-lts.Need-add-row-at (carried-wide-claims t) (carried-wide-at t) carried-wide.Post carried-wide-Inv-loop carried-wide-μ-loop
-  carried-wide-add-row-at c = let p = c .before .before in omega (arith, in-table (wide-one p .old .row) .here, wide-entry p .good)
+  failing-wide-add-row-at : failing-wide-lts.Need-add-row-at (failing-wide-claims t) (failing-wide-at t) failing-wide.Post failing-wide-Inv-loop failing-wide-μ-loop
+  failing-wide-add-row-at c = let p = c .before .before in omega (arith, in-table (wide-one p .old .row) .here, wide-entry p .good)
 
-  carried-wide-row-at-requires-2 : carried-wide-lts.Need-row-at-requires-2 (carried-wide-claims t) (carried-wide-at t) carried-wide.Post carried-wide-Inv-loop carried-wide-μ-loop
-  carried-wide-row-at-requires-2 c κs = in-table (wide-one (c .before .before) .old .row)
+  failing-wide-row-at-requires-2 : failing-wide-lts.Need-row-at-requires-2 (failing-wide-claims t) (failing-wide-at t) failing-wide.Post failing-wide-Inv-loop failing-wide-μ-loop
+  failing-wide-row-at-requires-2 c κs = in-table (wide-one (c .before .before) .old .row)
 
-  carried-wide-add-i : carried-wide-lts.Need-add-i (carried-wide-claims t) (carried-wide-at t) carried-wide.Post carried-wide-Inv-loop carried-wide-μ-loop
-  carried-wide-add-i c = let p = c .before .before .before in omega (arith, p .before .loop .inv .few, p .loop-test .taken)
+  failing-wide-add-i : failing-wide-lts.Need-add-i (failing-wide-claims t) (failing-wide-at t) failing-wide.Post failing-wide-Inv-loop failing-wide-μ-loop
+  failing-wide-add-i c = let p = c .before .before .before in omega (arith, p .before .loop .inv .few, p .loop-test .taken)
 
-  carried-wide-loop-less : carried-wide-lts.Need-loop-less (carried-wide-claims t) (carried-wide-at t) carried-wide.Post carried-wide-Inv-loop carried-wide-μ-loop
-  carried-wide-loop-less c = omega arith
+  failing-wide-loop-less : failing-wide-lts.Need-loop-less (failing-wide-claims t) (failing-wide-at t) failing-wide.Post failing-wide-Inv-loop failing-wide-μ-loop
+  failing-wide-loop-less c = omega arith
 
-  carried-wide-loop-again : carried-wide-lts.Need-loop-again (carried-wide-claims t) (carried-wide-at t) carried-wide.Post carried-wide-Inv-loop carried-wide-μ-loop
-  carried-wide-loop-again c =
+  failing-wide-loop-again : failing-wide-lts.Need-loop-again (failing-wide-claims t) (failing-wide-at t) failing-wide.Post failing-wide-Inv-loop failing-wide-μ-loop
+  failing-wide-loop-again c =
       let p = c .before .before .before in
       wide-next (p .before .loop .inv) (p .loop-test .taken) (c .before .before .carried-found .ensures) (not-false _ (c .before .if1 .left)) (c .row-at2 .ensures)
 
-  carried-wide-returns-2 : carried-wide-lts.Need-returns-2 (carried-wide-claims t) (carried-wide-at t) carried-wide.Post carried-wide-Inv-loop carried-wide-μ-loop
-  carried-wide-returns-2 c = wide-end (c .before .loop .inv) (c .loop-test .left)
+  failing-wide-returns-2 : failing-wide-lts.Need-returns-2 (failing-wide-claims t) (failing-wide-at t) failing-wide.Post failing-wide-Inv-loop failing-wide-μ-loop
+  failing-wide-returns-2 c = wide-end (c .before .loop .inv) (c .loop-test .left)
 
-pub +carried+carried-field+carried-fields+carried-found+carried-to-array+carried-to-map+carried-to-object+carried-wide-spec :
+pub +carried+carried-field+carried-found+carried-to-array+carried-to-map+carried-to-object+failing-field+failing-wide-spec :
     {M : Type 1} → statement M
-+carried+carried-field+carried-fields+carried-found+carried-to-array+carried-to-map+carried-to-object+carried-wide-spec =
++carried+carried-field+carried-found+carried-to-array+carried-to-map+carried-to-object+failing-field+failing-wide-spec =
     close
     μ-carried
     μ-carried-field
-    μ-carried-fields
     μ-carried-found
     μ-carried-to-array
     μ-carried-to-map
     μ-carried-to-object
-    μ-carried-wide
+    μ-failing-field
+    μ-failing-wide
     (λ t. carried-lts.spec (carried-claims t) (carried-at t)
     carried.Post
     (carried-generic-at-requires t)
@@ -785,25 +787,6 @@ pub +carried+carried-field+carried-fields+carried-found+carried-to-array+carried
     (carried-field-find-under-requires t)
     (carried-field-carried-found-requires t)
     (carried-field-returns t))
-    (λ t. carried-fields-lts.spec (carried-fields-claims t) (carried-fields-at t)
-    carried-fields.Post
-    carried-fields-Inv-loop
-    carried-fields-μ-loop
-    (carried-fields-returns t)
-    (carried-fields-row-at-requires t)
-    (carried-fields-wide-under-requires t)
-    (carried-fields-carried-wide-requires t)
-    (carried-fields-returns-2 t)
-    (carried-fields-add-row t)
-    (carried-fields-loop-holds t)
-    (carried-fields-carried-field-requires t)
-    (carried-fields-returns-3 t)
-    (carried-fields-add-row-at t)
-    (carried-fields-row-at-requires-2 t)
-    (carried-fields-sub-left t)
-    (carried-fields-loop-less t)
-    (carried-fields-loop-again t)
-    (carried-fields-returns-4 t))
     (λ t. carried-found-lts.spec (carried-found-claims t) (carried-found-at t)
     carried-found.Post
     (carried-found-add-carried t)
@@ -850,29 +833,48 @@ pub +carried+carried-field+carried-fields+carried-found+carried-to-array+carried
     (carried-to-object-add-find t)
     (carried-to-object-slice-aggregate-find t)
     (carried-to-object-find-requires t)
-    (carried-to-object-carried-fields-requires t)
+    (carried-to-object-failing-field-requires t)
     (carried-to-object-returns-2 t)
     (carried-to-object-add-find-2 t)
     (carried-to-object-slice-aggregate-find-2 t)
     (carried-to-object-find-requires-2 t)
-    (carried-to-object-carried-fields-requires-2 t)
+    (carried-to-object-failing-field-requires-2 t)
     (carried-to-object-returns-3 t))
-    λ t. carried-wide-lts.spec (carried-wide-claims t) (carried-wide-at t)
-    carried-wide.Post
-    carried-wide-Inv-loop
-    carried-wide-μ-loop
-    (carried-wide-match-under-requires t)
-    (carried-wide-row-at-requires t)
-    (carried-wide-cast-count t)
-    (carried-wide-add-row t)
-    (carried-wide-loop-holds t)
-    (carried-wide-mul-found t)
-    (carried-wide-array-read-found t)
-    (carried-wide-carried-found-requires t)
-    (carried-wide-returns t)
-    (carried-wide-add-row-at t)
-    (carried-wide-row-at-requires-2 t)
-    (carried-wide-add-i t)
-    (carried-wide-loop-less t)
-    (carried-wide-loop-again t)
-    (carried-wide-returns-2 t)
+    (λ t. failing-field-lts.spec (failing-field-claims t) (failing-field-at t)
+    failing-field.Post
+    failing-field-Inv-loop
+    failing-field-μ-loop
+    (failing-field-returns t)
+    (failing-field-row-at-requires t)
+    (failing-field-wide-under-requires t)
+    (failing-field-failing-wide-requires t)
+    (failing-field-returns-2 t)
+    (failing-field-add-row t)
+    (failing-field-loop-holds t)
+    (failing-field-carried-field-requires t)
+    (failing-field-returns-3 t)
+    (failing-field-add-row-at t)
+    (failing-field-row-at-requires-2 t)
+    (failing-field-sub-left t)
+    (failing-field-loop-less t)
+    (failing-field-loop-again t)
+    (failing-field-returns-4 t))
+    λ t. failing-wide-lts.spec (failing-wide-claims t) (failing-wide-at t)
+    failing-wide.Post
+    failing-wide-Inv-loop
+    failing-wide-μ-loop
+    (failing-wide-match-under-requires t)
+    (failing-wide-row-at-requires t)
+    (failing-wide-cast-count t)
+    (failing-wide-add-row t)
+    (failing-wide-loop-holds t)
+    (failing-wide-mul-found t)
+    (failing-wide-array-read-found t)
+    (failing-wide-carried-found-requires t)
+    (failing-wide-returns t)
+    (failing-wide-add-row-at t)
+    (failing-wide-row-at-requires-2 t)
+    (failing-wide-add-i t)
+    (failing-wide-loop-less t)
+    (failing-wide-loop-again t)
+    (failing-wide-returns-2 t)
