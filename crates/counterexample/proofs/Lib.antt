@@ -1,0 +1,10 @@
+-- The witness is small (Lengths, Costs, Small), so its spelling is a document (Names, Shown), which Check confirms (Confirming).
+pub mod Lengths
+pub mod Costs
+pub mod Names
+pub mod Small
+pub mod Shown
+pub mod Confirming
+pub mod Failing
+pub mod Fields
+pub mod Examples

@@ -1,0 +1,158 @@
+-- The name under which the witness against an Object fails, on plain values: one law for each way out of `failing_name`.
+use Prim.Native.Nat.{ℕ, zero, suc, _+_, _≤_, _<_}
+use mathlib.Core.Path.{_≡_, refl, sym, ap, _∙_, subst}
+use mathlib.Core.Bool.{Bool, true, false, _&&_}
+use mathlib.Core.Option.{Option, none, some}
+use mathlib.Core.List.{List}
+use native.Mathlib.Omega.{arith}
+use Rattle.model.specs.Text.{text}
+use Rattle.model.specs.Definition.{JSON, Def, named, array-of, map-of, object-of}
+use Rattle.model.specs.Subtype.{subtype, under, requires}
+use Rattle.model.specs.Meeting.{isSome}
+use Rattle.chars.specs.Spelling.{IsQuoted}
+use Rattle.reader.specs.Grammar.{nameOf}
+use Rattle.reader.specs.Holding.{word}
+use Rattle.schema.specs.Located.{plain, plainFields}
+use Rattle.schema.specs.Walking.{InTable, Finds}
+use Rattle.schema.specs.Comparing.{DefinedRow, OfObjectsRow, definitionUnder, Gives, FindsUnder, Pairing, PairingTo}
+use Rattle.schema.specs.Comparing.{fieldSubtype, firstFailing, FieldsPairing, Fails, FieldsFailing}
+use Rattle.schema.specs.declared.names.Generic.the-variants.{Object}
+use Rattle.schema.proofs.Defines.{partRows}
+use Rattle.schema.proofs.Shapes.{Fielded}
+use Rattle.schema.proofs.Carries.{field-all, object-fields, object-less, required-pair, optional-pair, fields-none}
+use Rattle.counterexample.specs.Writing.{failingOf, failing, FailingName}
+
+-- ---- a name that the new definition asks for
+
+takes-all : (a : Def) → subtype a (named JSON) ≡ true
+takes-all (named t) = refl
+takes-all (array-of d) = refl
+takes-all (map-of d) = refl
+takes-all (object-of r o) = refl
+
+-- it has a definition under it
+requires-some : (a : Def) (n : List ℕ) → requires a n ≡ isSome (definitionUnder true a n)
+requires-some a n = go (requires a n) (definitionUnder true a n) (rw (takes-all (under a n)) at (field-all a n (named JSON)))
+  where
+    go : (b : Bool) (x : Option Def) → b && true ≡ fieldSubtype true x (named JSON) → b ≡ isSome x
+    go true none h = h
+    go true (some d) h = refl
+    go false none h = refl
+    go false (some d) h = h ∙ takes-all d
+
+-- v was found for it
+module _ {s t n : List ℕ} {r v : ℕ} (g : FindsUnder s t r n true v) (d : DefinedRow s t r) where
+  found-some : 0 < v → requires (plain (d .definition)) n ≡ true
+  found-some l = requires-some (plain (d .definition)) n ∙ go (definitionUnder true (plain (d .definition)) n) (g .tells d)
+    where
+      go : (x : Option Def) → Gives s t v x → isSome x ≡ true
+      go none h = absurd (omega arith)
+      go (some e) h = refl
+
+  found-none : v ≤ 0 → requires (plain (d .definition)) n ≡ false
+  found-none l = requires-some (plain (d .definition)) n ∙ go (definitionUnder true (plain (d .definition)) n) (g .tells d)
+    where
+      go : (x : Option Def) → Gives s t v x → isSome x ≡ false
+      go none h = refl
+      go (some e) h = absurd (omega arith)
+
+-- ---- the field that fails
+
+module _ (s t : List ℕ) where
+  -- among the fields at row r, so among the rows of the definition at row q; there are none at row 0
+  widened : (r q v : ℕ) (x : Option (List ℕ × Def)) → partRows t r < word t q 4 → (r ≡ 0 → Fails s t r 0 x) → Fails s t r v x → Fails s t q v x
+  widened r q v none l z h = h
+  widened zero q v (some f) l z h = absurd (omega (arith, z refl .0))
+  widened (suc r) q v (some f) l z h = (
+    h .0,
+    record {
+      name = h .1 .name;
+      quoted = h .1 .quoted;
+      is = h .1 .is;
+      value = h .1 .value;
+      defines = h .1 .defines;
+      less = omega (arith, h .1 .less);
+    },
+  )
+
+  -- x is the first that is required, y the first that is optional
+  module _ (r v : ℕ) (a : Def) (x y : Option (List ℕ × Def)) (h : Fails s t r v x) where
+    abbrev asked : Bool
+    asked = requires a (nameOf s (word t v 1) (word t v 2))
+
+    fails-asked : 0 < v → asked ≡ true → Fails s t r v (failingOf a x y)
+    fails-asked l q = go x h
+      where
+        go : (x : Option (List ℕ × Def)) → Fails s t r v x → Fails s t r v (failingOf a x y)
+        go none h = absurd (omega arith)
+        go (some f) h = rw (sym (ap (requires a) (h .1 .is)) ∙ q) h
+
+    fails-unasked : 0 < v → asked ≡ false → Fails s t r 0 (failingOf a x y)
+    fails-unasked l q = go x h
+      where
+        go : (x : Option (List ℕ × Def)) → Fails s t r v x → Fails s t r 0 (failingOf a x y)
+        go none h = absurd (omega arith)
+        go (some f) h = rw (sym (ap (requires a) (h .1 .is)) ∙ q) refl
+
+    fails-optional : v ≤ 0 → (w : ℕ) → Fails s t r w y → Fails s t r w (failingOf a x y)
+    fails-optional l w k = go x h
+      where
+        go : (x : Option (List ℕ × Def)) → Fails s t r v x → Fails s t r w (failingOf a x y)
+        go none h = k
+        go (some f) h = absurd (omega arith)
+
+-- the row of its name
+pub failing-at : {s₁ s₂ t₁ t₂ : List ℕ} {r₁ r₂ : ℕ} {required : Bool} {v : ℕ} → FieldsFailing s₁ s₂ t₁ t₂ r₁ r₂ required v → FieldsPairing s₁ s₂ t₁ t₂ r₁ r₂ → 0 < v
+    → InTable t₂ v × IsQuoted s₂ (word t₂ v 1) (word t₂ v 2)
+failing-at {s₂ = s₂} {t₂ = t₂} {r₂ = r₂} {required = required} {v = v} k p l = go (firstFailing required (plain (p .new .definition)) (plainFields (p .old .fields))) (k .tells p)
+  where
+    go : (x : Option (List ℕ × Def)) → Fails s₂ t₂ r₂ v x → InTable t₂ v × IsQuoted s₂ (word t₂ v 1) (word t₂ v 2)
+    go none h = absurd (omega arith)
+    go (some f) h = (h .1 .name, h .1 .quoted)
+
+-- ---- `failing_name`
+
+module _ {s₁ s₂ t₁ t₂ : List ℕ} {r₁ r₂ : ℕ} (i : PairingTo s₁ s₂ t₁ t₂ r₁ r₂ Object) where
+  abbrev old-object : (p : Pairing s₁ s₂ t₁ t₂ r₁ r₂) → Fielded s₂ t₂ r₂ (plain (p .old .definition))
+  old-object p = object-fields (i .is) (p .old)
+
+  pub name-other : OfObjectsRow s₁ t₁ r₁ false → FailingName s₁ s₂ t₁ t₂ r₁ r₂ 0
+  name-other h = record { tells = λ p. rw (old-object p .is) (rw (sym (h .tells (p .new))) refl) }
+
+  -- `failing_field` answers w for "required"
+  module _ (h : OfObjectsRow s₁ t₁ r₁ true) {v : ℕ} (f : Finds s₂ t₂ (r₂ + 2) (text "required") v) {w : ℕ} (k : FieldsFailing s₁ s₂ t₁ t₂ r₁ v true w) where
+    abbrev first : Pairing s₁ s₂ t₁ t₂ r₁ r₂ → Option (List ℕ × Def)
+    first p = firstFailing true (plain (p .new .definition)) (plainFields (old-object p .required))
+
+    abbrev second : Pairing s₁ s₂ t₁ t₂ r₁ r₂ → Option (List ℕ × Def)
+    second p = firstFailing false (plain (p .new .definition)) (plainFields (old-object p .optional))
+
+    both : (p : Pairing s₁ s₂ t₁ t₂ r₁ r₂) → failingOf (plain (p .new .definition)) (first p) (second p) ≡ failing (plain (p .new .definition)) (plain (p .old .definition))
+    both p = rw (old-object p .is) (rw (sym (h .tells (p .new))) refl)
+
+    first-fails : (p : Pairing s₁ s₂ t₁ t₂ r₁ r₂) → Fails s₂ t₂ r₂ w (first p)
+    first-fails p = widened s₂ t₂ v r₂ w (first p) (object-less i f) (λ e. fields-none e .tells (required-pair i f p)) (k .tells (required-pair i f p))
+
+    module _ (l : 0 < w) {u : ℕ} (g : FindsUnder s₁ t₁ r₁ (nameOf s₂ (word t₂ w 1) (word t₂ w 2)) true u) where
+      pub name-required : 0 < u → FailingName s₁ s₂ t₁ t₂ r₁ r₂ w
+      name-required m = record {
+        tells = λ p.
+            (let a = plain (p .new .definition) in
+            subst (Fails s₂ t₂ r₂ w) (both p) (fails-asked s₂ t₂ r₂ w a (first p) (second p) (first-fails p) l (found-some g (p .new) m)));
+      }
+
+      -- it asks for no value under the name, so a sample lacks it
+      pub name-lacking : u ≤ 0 → FailingName s₁ s₂ t₁ t₂ r₁ r₂ 0
+      name-lacking m = record {
+        tells = λ p.
+            (let a = plain (p .new .definition) in
+            subst (Fails s₂ t₂ r₂ 0) (both p) (fails-unasked s₂ t₂ r₂ w a (first p) (second p) (first-fails p) l (found-none g (p .new) m)));
+      }
+
+    pub name-optional : w ≤ 0 → {u : ℕ} → Finds s₂ t₂ (r₂ + 2) (text "optional") u → {x : ℕ} → FieldsFailing s₁ s₂ t₁ t₂ r₁ u false x → FailingName s₁ s₂ t₁ t₂ r₁ r₂ x
+    name-optional l {u} g {x} m = record {
+      tells = λ p.
+          (let a = plain (p .new .definition) in
+          let y = widened s₂ t₂ u r₂ x (second p) (object-less i g) (λ e. fields-none e .tells (optional-pair i g p)) (m .tells (optional-pair i g p)) in
+          subst (Fails s₂ t₂ r₂ x) (both p) (fails-optional s₂ t₂ r₂ w a (first p) (second p) (first-fails p) l x y));
+    }
