@@ -1,4 +1,5 @@
 -- The witness is small (Lengths, Costs, Small), so its spelling is a document (Names, Shown), which Check confirms (Confirming).
+-- For the writers: the field that fails (Failing).
 pub mod Lengths
 pub mod Costs
 pub mod Names
@@ -6,5 +7,4 @@ pub mod Small
 pub mod Shown
 pub mod Confirming
 pub mod Failing
-pub mod Fields
 pub mod Examples

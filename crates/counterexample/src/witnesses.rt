@@ -1,9 +1,9 @@
 // A value that meets the new definition and fails the old one, where the new is not carried to the old.
-use crate::fresh::write_beyond;
-use crate::pieces::write_bytes;
-use crate::pieces::write_name;
-use crate::samples::write_others;
-use crate::samples::write_sample;
+use samples::write_beyond;
+use samples::write_bytes;
+use samples::write_name;
+use samples::write_others;
+use samples::write_sample;
 use schema::Generic;
 use schema::failing_field;
 use schema::find;

@@ -24,7 +24,8 @@ use Rattle.schema.proofs.Defining.{defined-plain}
 use Rattle.schema.proofs.CheckZero.{Takes, Way, accept-way}
 use Rattle.schema.proofs.Accepting.{HasRead, has-rows}
 use Rattle.counterexample.specs.Counterexample.{Shows, exampleAnswer, exampleBuffer, Promises, tableUnlessShort}
-use Rattle.counterexample.specs.Writing.{Writes, WitnessReady, WitnessWritten}
+use Rattle.samples.specs.Writing.{Writes}
+use Rattle.counterexample.specs.Writing.{WitnessReady, WitnessWritten}
 use Rattle.counterexample.proofs.Shown.{fits}
 use Rattle.counterexample.proofs.Confirming.{shows}
 

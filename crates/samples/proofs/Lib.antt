@@ -1,0 +1,3 @@
+-- For the writers: the fields of a row (Fields), what is lent and written, piece by piece (Lent).
+pub mod Fields
+pub mod Lent

@@ -1,0 +1,336 @@
+-- Whether names begin with letters, and how many do; then the letters with which none does, and the object that has their name.
+use Prim.Native.Nat.{ℕ, zero, suc, _+_, _-_, _*_, _≤_, _<_}
+use mathlib.Core.Path.{_≡_, refl, sym, ap, ap₂, _∙_, subst}
+use mathlib.Core.Bool.{Bool, true, false, cond}
+use mathlib.Core.List.{List, [], _∷_, _++_, append-assoc, append-nil}
+use mathlib.Core.Option.{Option}
+use native.Mathlib.Numerals.{add-one}
+use native.Mathlib.Omega.{arith}
+use lib.ListN.{length, take, drop, getD, set, length-set, length-append}
+use lib.Dec.{leb}
+use lib.Seq.{drop-cons, take-at, take-suc-set, set-set}
+use borrow.Author.Tests.{eq-eqb, ne-eqb, le-leb, lt-leb}
+use Rattle.model.specs.Text.{text}
+use Rattle.model.specs.Value.{Members as Fellows}
+use Rattle.model.specs.Definition.{Named, Def, object-of, Fields}
+use Rattle.model.specs.Witness.{kept, behind, rarer, avoiding, names, ownNames, fresh, begins, counted, beyondNamed}
+use Rattle.model.proofs.Basics.{both}
+use Rattle.model.proofs.Samples.{others-fresh}
+use Rattle.model.proofs.Letters.{nextLetter, letters-fewer, lettersFrom, letters-stop, letters-next, fresh-letters}
+use Rattle.reader.specs.Tree.{Members, no-member, member}
+use Rattle.reader.specs.Rows.{rowWords, sizesMembers}
+use Rattle.reader.specs.Grammar.{nameOf}
+use Rattle.reader.specs.Holding.{word}
+use Rattle.grammar.specs.Utf8.{utf8}
+use Rattle.writer.specs.Spell.{spellChar, spellChars, spell}
+use Rattle.writer.specs.Compact.{over}
+use Rattle.writer.proofs.Over.{over-first, Wrote, wrote-byte}
+use Rattle.schema.specs.Located.{Located, named-at, array-at, map-at, object-at, LocatedFields, fine, definitionAt, fieldsAt, plain, plainFields}
+use Rattle.schema.specs.Walking.{Reads, PartRow, Finds}
+use Rattle.schema.specs.Comparing.{DefinedRow, typeIn, TypeRow, genericIn, GenericRow, FieldsRow}
+use Rattle.schema.specs.Names.{typeOf}
+use Rattle.schema.specs.declared.names.TypeName.{TypeName}
+use Rattle.schema.specs.declared.names.Generic.{Generic}
+use Rattle.schema.specs.declared.names.Generic.the-variants.{Array, Map, Object, Other}
+use Rattle.schema.specs.declared.rows.Record.{Record}
+use Rattle.schema.proofs.Trees.{row, as-row, part-object}
+use Rattle.schema.proofs.Defining.{added-fine}
+use Rattle.schema.proofs.Shapes.{in-array, in-map}
+use Rattle.schema.proofs.Carries.{of-name, object-fields, required-fields, optional-fields, of-kind, fields-empty, same-fields, same-definition}
+use Rattle.samples.proofs.Lent.{wrote, Lent, lent, lent-last}
+use Rattle.samples.proofs.Fields.{FieldsLeft, FieldHere, fields-none, fields-start, fields-end, field-here}
+use Rattle.samples.specs.Writing.{Writes, apartBy, further, CountsFields, CountsNames, LettersReady, LettersWritten, BeyondWritten}
+
+-- ---- a name that is compared with the letters p, up to the k-th
+
+pub begins-end : (p : List ℕ) (k : ℕ) (n : List ℕ) → length p ≤ k → begins (drop k p) n ≡ true
+begins-end [] zero n h = refl
+begins-end [] (suc k) n h = refl
+begins-end (c ∷ p) zero n h = absurd (omega arith)
+begins-end (c ∷ p) (suc k) n h = begins-end p k n (omega arith)
+
+module _ (p : List ℕ) (k : ℕ) (l : k < length p) {n : List ℕ} where
+  pub begins-short : n ≡ [] → begins (drop k p) n ≡ false
+  begins-short e = rw (drop-cons p k 0 l, e)
+
+  module _ {x : ℕ} {xs : List ℕ} (e : n ≡ x ∷ xs) where
+    pub begins-not : (x ≡ getD p k 0 → ⊥) → begins (drop k p) n ≡ false
+    begins-not h = rw (drop-cons p k 0 l, e, ne-eqb x (getD p k 0) h)
+
+    pub begins-on : x ≡ getD p k 0 → begins (drop k p) n ≡ begins (drop (k + 1) p) xs
+    begins-on h = rw (drop-cons p k 0 l, e, eq-eqb x (getD p k 0) h, add-one)
+
+-- ---- the names of the fields at row r, one after the other
+
+-- before the one at row `here`, with `left` names not yet seen, n begin with p
+pub record Counting (s t : List ℕ) (r : ℕ) (p : List ℕ) (here left n : ℕ) : Type 0 where
+  pub fields : LocatedFields
+  pub ahead : FieldsLeft s t r here left fields
+  pub few : n < here
+  pub stays : (f : FieldsRow s t r) → n + counted p (names (plainFields fields)) ≡ counted p (names (plainFields (f .fields)))
+
+module _ {s t : List ℕ} {r : ℕ} {p : List ℕ} where
+  pub count-none : r ≡ 0 → CountsFields s t r p 0
+  count-none e = record { tells = λ f. rw (fields-none e f) refl }
+
+  pub count-start : (f : FieldsRow s t r) → 0 < r → {left : ℕ} → left ≡ word t r 3 → Counting s t r p (r + 1) left 0
+  count-start f l e = record {
+    fields = f .fields;
+    ahead = fields-start f l e;
+    few = omega arith;
+    stays = λ g. omega (arith, ap (λ (fs : LocatedFields). counted p (names (plainFields fs))) (same-fields f g));
+  }
+
+  module _ {here left n : ℕ} (a : Counting s t r p here left n) where
+    pub count-end : left ≤ 0 → CountsFields s t r p n
+    count-end l = record {
+      tells = λ f. (let z : n + 0 ≡ counted p (names (plainFields (f .fields))) = rw (fields-end (a .ahead) l) at (a .stays f) in omega arith);
+    }
+
+    module _ (l : 0 < left) where
+      abbrev pub this : FieldHere s t r here left (a .fields)
+      this = field-here (a .ahead) l
+
+      -- its name's row was read, and that of the definition behind it
+      module _ {x y : Record} (g : Reads t here x) (h : Reads t (here + 1) y) where
+        -- it counts by whether it begins with p
+        pub count-next : {b : Bool} → b ≡ begins p (nameOf s (x .first) (x .end)) → {m : ℕ} → m ≡ cond b (n + 1) n → Counting s t r p (y .next) (left - 1) m
+        count-next {b} e {m} q =
+            let rest = counted p (names (plainFields (this .others))) in
+            let z : b ≡ begins p (nameOf s (word t here 1) (word t here 2)) = rw (g .first, g .last) at e in
+            record {
+              fields = this .others;
+              ahead = this .behind h;
+              few = omega (arith, bound b q, h .next, a .few);
+              stays = λ f. sum b q rest ∙ ap (λ (b : Bool). n + cond b (suc rest) rest) z ∙ sym (ap (λ (fs : Fields). n + counted p (names fs)) (this .is)) ∙ a .stays f;
+            }
+          where
+            bound : (b : Bool) → m ≡ cond b (n + 1) n → m ≤ n + 1
+            bound true q = omega arith
+            bound false q = omega arith
+
+            sum : (b : Bool) → m ≡ cond b (n + 1) n → (k : ℕ) → m + k ≡ n + cond b (suc k) k
+            sum true q k = omega arith
+            sum false q k = omega arith
+
+-- ---- the names of an Object definition: those of its required fields, then those of its optional ones
+
+counted-append : (p : List ℕ) (ns ms : List (List ℕ)) → counted p (ns ++ ms) ≡ counted p ns + counted p ms
+counted-append p [] ms = omega arith
+counted-append p (n ∷ ns) ms = go (begins p n) (counted-append p ns ms)
+  where
+    go : (b : Bool) {x : ℕ} → x ≡ counted p ns + counted p ms → cond b (suc x) x ≡ cond b (suc (counted p ns)) (counted p ns) + counted p ms
+    go true e = omega arith
+    go false e = omega arith
+
+counted-few : (p : List ℕ) (ns : List (List ℕ)) → counted p ns ≤ length ns
+counted-few p [] = omega arith
+counted-few p (n ∷ ns) = both (λ k. k ≤ suc (length ns)) (begins p n) (λ _. omega (arith, counted-few p ns)) (λ _. omega (arith, counted-few p ns))
+
+-- each has a row
+names-few : (s : List ℕ) (ms : Members) (fs : LocatedFields) → fieldsAt s ms ≡ fine fs → length (names (plainFields fs)) ≤ sizesMembers ms
+names-few s no-member fs q = rw (fields-empty s refl q) (omega arith)
+names-few s (member f e n ms) fs q =
+    let k = added-fine f (nameOf s f e) (definitionAt s n) (fieldsAt s ms) fs q in
+    rw (k .adds) (omega (arith, names-few s ms (k .others) (k .define)))
+
+part-few : {s t : List ℕ} {r : ℕ} (o : PartRow s t r) → rowWords * sizesMembers (o .members) ≤ length t
+part-few {r = zero} o = omega (arith, ap sizesMembers (o .absent refl))
+part-few {r = suc r} o = omega (arith, row (as-row (part-object o (omega arith))) .room)
+
+module _ {s t : List ℕ} {p : List ℕ} where
+  pub count-few : {r n : ℕ} → FieldsRow s t r → CountsFields s t r p n → rowWords * n ≤ length t
+  count-few f h =
+      omega (arith, h .tells f, counted-few p (names (plainFields (f .fields))), names-few s (f .part .members) (f .fields) (f .defines), part-few (f .part))
+
+  pub count-both : {r v w n m : ℕ} (o : GenericRow s t r Object) → Finds s t (r + 2) (text "required") v → Finds s t (r + 2) (text "optional") w
+      → CountsFields s t v p n → CountsFields s t w p m → CountsNames s t r p (n + m)
+  count-both o f g h k = record {
+    tells = λ d. rw (object-fields o d .is, counted-append) (omega (arith, h .tells (required-fields o f d), k .tells (optional-fields o g d)));
+  }
+
+-- ---- the letters of the fresh name of the definition at row r
+
+-- of a buffer that held `before`, n bytes are written: the letters of `done`, and the others follow, `left` at most
+pub record Lettering (s t : List ℕ) (r : ℕ) (before : List ℕ) (n : ℕ) (out : List ℕ) : Type 0 where
+  pub row : DefinedRow s t r
+  pub fits : length (fresh (plain (row .definition))) ≤ length before
+  pub done : List ℕ
+  pub wrote : Wrote before n out done
+  pub left : ℕ
+  pub enough : counted done (ownNames (plain (row .definition))) ≤ left
+  pub splits : fresh (plain (row .definition)) ≡ done ++ lettersFrom left done (ownNames (plain (row .definition)))
+
+pub letters-start : {s t : List ℕ} {r : ℕ} (out : List ℕ) → LettersReady s t r (length out) → Lettering s t r (set out 0 0x61) 1 (set out 0 0x61)
+letters-start out p = record {
+  row = p .row;
+  fits = simp length-set (p .fits);
+  done = 0x61 ∷ [];
+  wrote = wrote-byte out 0x61 (omega (arith, p .fits));
+  left = length (ownNames (plain (p .row .definition)));
+  enough = counted-few (0x61 ∷ []) (ownNames (plain (p .row .definition)));
+  splits = fresh-letters (plain (p .row .definition));
+}
+
+module _ {s t : List ℕ} {r : ℕ} {before : List ℕ} {n : ℕ} {out : List ℕ} (g : Lettering s t r before n out) where
+  abbrev own : List (List ℕ)
+  own = ownNames (plain (g .row .definition))
+
+  abbrev next : ℕ
+  next = nextLetter (g .done) own
+
+  -- there is room for those that follow
+  pub letters-lent : Lent before n out (g .done) (length (lettersFrom (g .left) (g .done) own))
+  letters-lent = lent (g .wrote) (omega (arith, g .fits, ap length (g .splits), length-append (g .done) (lettersFrom (g .left) (g .done) own), g .wrote .count))
+
+  pub letters-in : n ≤ length out
+  letters-in = omega (arith, letters-lent .room, letters-lent .same)
+
+  prefix : take n out ≡ g .done
+  prefix = ap (take n) (g .wrote .holds) ∙ take-at (g .done) (drop (length (g .done)) before) n (sym (g .wrote .count))
+
+  -- k of the names begin with what is written
+  module _ {k : ℕ} (h : CountsNames s t r (take n out) k) where
+    told : k ≡ counted (g .done) own
+    told = h .tells (g .row) ∙ ap (λ (p : List ℕ). counted p own) prefix
+
+    pub letters-end : k ≤ 0 → {buffer : List ℕ} → before ≡ set buffer 0 0x61 → LettersWritten s t r n buffer out
+    letters-end l {buffer} e =
+        let z : fresh (plain (g .row .definition)) ≡ g .done = g .splits ∙ ap (_++_ (g .done)) (letters-stop (g .left) (g .done) own (omega (arith, told))) ∙ append-nil (g .done) in
+        record {
+          tells = λ d. subst (λ (x : Located). Writes (fresh (plain x)) n buffer out) (same-definition (g .row) d) (
+            g .wrote .count ∙ ap length (sym z),
+            g .wrote .holds ∙ ap₂ over (sym z) e ∙ over-first buffer (fresh (plain (g .row .definition))) 0x61 (omega arith),
+          );
+        }
+
+    module _ (l : 0 < k) where
+      some : 0 < counted (g .done) own
+      some = omega (arith, told)
+
+      -- the next letter, and those behind it
+      follows : (j : ℕ) × (counted (g .done ++ next ∷ []) own ≤ j) × (fresh (plain (g .row .definition)) ≡ (g .done ++ next ∷ []) ++ lettersFrom j (g .done ++ next ∷ []) own)
+      follows = go (g .left) (g .enough) (g .splits)
+        where
+          go : (i : ℕ) → counted (g .done) own ≤ i → fresh (plain (g .row .definition)) ≡ g .done ++ lettersFrom i (g .done) own
+              → (j : ℕ) × (counted (g .done ++ next ∷ []) own ≤ j) × (fresh (plain (g .row .definition)) ≡ (g .done ++ next ∷ []) ++ lettersFrom j (g .done ++ next ∷ []) own)
+          go zero f q = absurd (omega (arith, some))
+          go (suc i) f q = (
+            i,
+            omega (arith, letters-fewer (g .done) own some),
+            q ∙ ap (_++_ (g .done)) (letters-next i (g .done) own some) ∙ sym (append-assoc (g .done) (next ∷ []) (lettersFrom i (g .done ++ next ∷ []) own)),
+          )
+
+      pub letters-more : n < length out
+      letters-more = omega (
+        arith,
+        g .fits,
+        letters-lent .same,
+        g .wrote .count,
+        ap length (follows .2),
+        length-append (g .done ++ next ∷ []) (lettersFrom (follows .0) (g .done ++ next ∷ []) own),
+        length-append (g .done) (next ∷ []),
+      )
+
+      -- how many go on with the letter c
+      with : (c : ℕ) {x : ℕ} → CountsNames s t r (take (n + 1) (set out n c)) x → x ≡ counted (g .done ++ c ∷ []) own
+      with c q =
+          q .tells (g .row)
+          ∙ ap (λ (p : List ℕ). counted p own)
+          (ap (λ (j : ℕ). take j (set out n c)) (add-one n) ∙ take-suc-set out n c letters-more ∙ ap (λ (p : List ℕ). p ++ c ∷ []) prefix)
+
+      letter : (c : ℕ) → next ≡ c → Lettering s t r before (n + 1) (set out n c)
+      letter c e = rw (← e) (record {
+        row = g .row;
+        fits = g .fits;
+        done = g .done ++ next ∷ [];
+        wrote = wrote (lent-last (lent {more = 1} (g .wrote) (omega (arith, letters-more, letters-lent .same))) (omega arith) next refl);
+        left = follows .0;
+        enough = follows .1;
+        splits = follows .2;
+      })
+
+      -- 'b' was tried, and then 'a'
+      module _ {x y : ℕ} (hb : CountsNames s t r (take (n + 1) (set out n 0x62)) y) (ha : CountsNames s t r (take (n + 1) (set (set out n 0x62) n 0x61)) x) where
+        with-a : x ≡ counted (g .done ++ 0x61 ∷ []) own
+        with-a = with 0x61 (rw (set-set out n 0x62 0x61) at ha)
+
+        pub letter-a : x ≤ y → Lettering s t r before (n + 1) (set (set out n 0x62) n 0x61)
+        letter-a f =
+            let z : counted (g .done ++ 0x61 ∷ []) own ≤ counted (g .done ++ 0x62 ∷ []) own = omega (arith, with-a, with 0x62 hb) in
+            rw set-set (letter 0x61 (rw (le-leb _ _ z) refl))
+
+        pub letter-b : y < x → Lettering s t r before (n + 1) (set (set (set out n 0x62) n 0x61) n 0x62)
+        letter-b f =
+            let z : counted (g .done ++ 0x62 ∷ []) own < counted (g .done ++ 0x61 ∷ []) own = omega (arith, with-a, with 0x62 hb) in
+            rw (set-set (set out n 0x62) n 0x61 0x62, set-set) (letter 0x62 (rw (lt-leb _ _ z) refl))
+
+-- ---- a value of the definition at row r that meets only the named types that take all of it
+
+pub beyond-as : {s t : List ℕ} {r : ℕ} {w : List ℕ} {n : ℕ} {out out₂ : List ℕ}
+    → ((d : DefinedRow s t r) → spell (beyondNamed (plain (d .definition))) ≡ w) → Writes w n out out₂ → BeyondWritten s t r n out out₂
+beyond-as f h = record { tells = λ d. rw (f d) h }
+
+pub beyond-same : {s t : List ℕ} {r : ℕ} (e d : DefinedRow s t r) → spell (beyondNamed (plain (d .definition))) ≡ spell (beyondNamed (plain (e .definition)))
+beyond-same e d = ap (λ (x : Located). spell (beyondNamed (plain x))) (same-definition d e)
+
+module _ {s t : List ℕ} {r : ℕ} {g : Generic} (h : GenericRow s t r g) where
+  pub beyond-array : g ≡ Array → (d : DefinedRow s t r) → spell (beyondNamed (plain (d .definition))) ≡ text "[]"
+  beyond-array e d = rw (in-array d (of-kind h e d) .is) refl
+
+  pub beyond-map : g ≡ Map → (d : DefinedRow s t r) → spell (beyondNamed (plain (d .definition))) ≡ text "{}"
+  beyond-map e d = rw (in-map d (of-kind h e d) .is) refl
+
+  pub beyond-name : g ≡ Other → {k : TypeName} → TypeRow s t r k → (d : DefinedRow s t r) → spell (beyondNamed (plain (d .definition))) ≡ spell (apartBy (typeOf k))
+  beyond-name e {k} q d = go (d .definition) (of-kind h e d) (q .tells d)
+    where
+      go : (x : Located) → Other ≡ genericIn x → k ≡ typeIn x → spell (beyondNamed (plain x)) ≡ spell (apartBy (typeOf k))
+      go (named-at p t) z w = sym (ap (λ (k : TypeName). spell (apartBy (typeOf k))) w ∙ ap (λ (m : Option Named). spell (apartBy m)) (of-name t))
+      go (array-at p x) z w = absurd (let z : _≡_ {A = ℕ} 0 1 = cc in omega arith)
+      go (map-at p x) z w = absurd (let z : _≡_ {A = ℕ} 0 1 = cc in omega arith)
+      go (object-at p x y) z w = absurd (let z : _≡_ {A = ℕ} 0 1 = cc in omega arith)
+
+-- ---- an object with one member more: its name is fresh
+
+letter-spelled : (ns : List (List ℕ)) → spellChar (rarer ns) ≡ rarer ns ∷ []
+unfolding spellChar utf8
+letter-spelled ns = both (λ c. spellChar c ≡ c ∷ []) (leb (length (behind 0x61 ns)) (length (behind 0x62 ns))) (λ _. refl) (λ _. refl)
+
+letters-spelled : (k : ℕ) (ns : List (List ℕ)) → spellChars (avoiding k ns) ≡ avoiding k ns
+letters-spelled zero ns = refl
+letters-spelled (suc k) [] = refl
+letters-spelled (suc k) (n ∷ ns) = ap₂ _++_ (letter-spelled (n ∷ ns)) (letters-spelled k (behind (rarer (n ∷ ns)) (n ∷ ns)))
+
+fresh-spelled : (a : Def) → spellChars (fresh a) ≡ fresh a
+unfolding spellChar utf8
+fresh-spelled a = ap (_∷_ 0x61) (letters-spelled (length (ownNames a)) (behind 0x61 (ownNames a)))
+
+-- what stands before the name, behind it, and behind its value
+abbrev pub opened : List ℕ
+opened = 0x7B ∷ 0x22 ∷ []
+
+abbrev pub isNull : List ℕ
+isNull = 0x22 ∷ 0x3A ∷ text "null"
+
+abbrev pub fellows : Fields → List ℕ
+fellows r = further (kept (λ m. true) r)
+
+module _ {a : Def} {r o : Fields} (e : a ≡ object-of r o) where
+  abbrev shown : List ℕ → Fellows → List ℕ
+  shown w ms = 0x7B ∷ (((0x22 ∷ (w ++ (0x22 ∷ []))) ++ (0x3A ∷ (text "null" ++ further ms))) ++ (0x7D ∷ []))
+
+  pub beside-spelled : (((opened ++ fresh a) ++ isNull) ++ fellows r) ++ (0x7D ∷ []) ≡ spell (beyondNamed a)
+  beside-spelled = rw e (go (fresh (object-of r o)) (kept (λ m. true) r) ∙ ap₂ shown (sym (fresh-spelled (object-of r o))) (sym (others-fresh r o)))
+    where
+      go : (n : List ℕ) (ms : Fellows) → (((opened ++ n) ++ isNull) ++ further ms) ++ (0x7D ∷ []) ≡ shown n ms
+      go n ms = simp append-assoc
+
+  pub beside-long : length (spell (beyondNamed a)) ≡ length (fresh a) + length (fellows r) + 9
+  beside-long = omega (
+    arith,
+    ap length beside-spelled,
+    length-append (((opened ++ fresh a) ++ isNull) ++ fellows r) (0x7D ∷ []),
+    length-append ((opened ++ fresh a) ++ isNull) (fellows r),
+    length-append (opened ++ fresh a) isNull,
+    length-append opened (fresh a),
+  )
