@@ -1,4 +1,7 @@
-/* Reads JSON text, checks a document against a Teleport schema, compares two schemas, writes a text in its one spelling. */
+/*
+ * Reads JSON text, checks a document against a Teleport schema, compares two schemas, shows by a document that one is not
+ * carried to the other, writes a text in its one spelling.
+ */
 #ifndef TELEPORT_H
 #define TELEPORT_H
 
@@ -30,7 +33,8 @@ enum teleport_code {
     TELEPORT_WRONG_KIND = 20,         /* the value's first byte; the definition's first byte, in the schema */
     TELEPORT_MISSING = 21,            /* the object's brace; the opening quote of the name, in the schema */
     TELEPORT_NO_DATE = 22,            /* the string's opening quote; the definition's first byte, in the schema */
-    TELEPORT_NOT_CARRIED = 30,        /* 0; 0 */
+    TELEPORT_NOT_CARRIED = 30,        /* 0; 0; after Counterexample the length of the document */
+    TELEPORT_SHORT_FOR_DOCUMENT = 31, /* 0; 0 */
     TELEPORT_SHORT_BUFFER = 60        /* 0; the bytes needed */
 };
 
@@ -84,12 +88,13 @@ enum teleport_kind {
  * Tables afterwards:
  * - With the codes 1 to 8 the table of the text that the answer names is as it was, and so is that of a text that was not
  *   reached: where Check refuses the schema, the document's; where Compare refuses the new schema, the old one's.
+ *   With 31 all tables are as they were.
  * - Every other table holds the rows of its text, and the words behind the last row are as they were: with 0, 20 to 22, 30
  *   and 60 all tables; with 10 to 12 that of the schema that is refused; where Check refuses the document, the schema's; where
  *   Compare refuses the old schema, the new one's. A text has at most as many rows as bytes.
  *
- * A buffer afterwards: with 0 it holds what was written, from byte 0, and the bytes behind are as they were; with every
- * other code it is as it was.
+ * A buffer afterwards: with 0 of Compact and 30 it holds what was written, from byte 0, and the bytes behind are as they
+ * were; with every other answer it is as it was.
  *
  *     static const uint8_t text[] = "[1,]";
  *     uint32_t table[5 * 4], answer[4];
@@ -115,6 +120,15 @@ void teleport_compare(const uint8_t *new_schema, size_t new_len, const uint8_t *
  */
 void teleport_compact(const uint8_t *text, size_t text_len, uint32_t *table, size_t table_len,
                       uint8_t *buffer, size_t buffer_len, uint32_t answer[4]);
+
+/*
+ * Compare's sister: with 30 it writes a document, within a document's limits, that meets the new schema and fails the old:
+ * Check, lent room, gives 0 under the new and 20 to 22 under the old. Which one is left open. A buffer of fewer bytes than
+ * TELEPORT_DOCUMENT_LIMIT is 31, before everything else. Otherwise code, text, place and tables are Compare's.
+ */
+void teleport_counterexample(const uint8_t *new_schema, size_t new_len, const uint8_t *old_schema, size_t old_len,
+                             uint32_t *table1, size_t table1_len, uint32_t *table2, size_t table2_len,
+                             uint8_t *buffer, size_t buffer_len, uint32_t answer[4]);
 
 #ifdef __cplusplus
 }

@@ -122,6 +122,9 @@ static int bytes_hold(const struct area *area, const uint8_t *buffer, const char
 
 static struct area text_areas[2], table_areas[2], answer_area, buffer_area;
 
+/* For a buffer of the longest document's length, and for one that has a byte more. */
+static struct area whole_area, larger_area;
+
 /* Read: every beginning of a text, in tables of every small length. */
 
 /* From a length of the beginning on: the code, its place, and the rows where it is read. */
@@ -258,6 +261,10 @@ static const struct text
     both_a = {"{\"Object\":{\"required\":{\"a\":\"JSON\"},\"optional\":{\"\\u0061\":\"JSON\"}}}",
         WORDS(8,0,65,1,11, 9,1,9,0,1, 8,10,64,2,9, 9,11,21,0,1, 8,22,34,1,3, 9,23,26,0,1, 6,27,33,0,1,
               9,35,45,0,1, 8,46,63,1,3, 9,47,55,0,1, 6,56,62,0,1)},
+    float_a = {"{\"Object\":{\"required\":{\"b\":\"Boolean\",\"a\":\"Float\"}}}",
+        WORDS(8,0,51,1,9, 9,1,9,0,1, 8,10,50,1,7, 9,11,21,0,1, 8,22,49,2,5, 9,23,26,0,1, 6,27,36,0,1, 9,37,40,0,1, 6,41,48,0,1)},
+    integer_a = {"{\"Object\":{\"required\":{\"a\":\"Integer\"}}}",
+        WORDS(8,0,39,1,7, 9,1,9,0,1, 8,10,38,1,5, 9,11,21,0,1, 8,22,37,1,3, 9,23,26,0,1, 6,27,36,0,1)},
     open = {"{\"Object\":{}}", WORDS(8,0,13,1,3, 9,1,9,0,1, 8,10,12,0,1)},
     empty = {"{}", WORDS(8,0,2,0,1)},
     fraction = {"1.0", WORDS(5,0,3,0,1)},
@@ -285,6 +292,7 @@ static const struct pair pairs[] = {
     {teleport_compare, {&number, &integer}, {30, 0, 0, 0}},
     {teleport_compare, {&open, &optional_a}, {30, 0, 0, 0}},
     {teleport_compare, {&optional_a, &optional_a}, {0, 0, 0, 0}},
+    {teleport_compare, {&float_a, &integer_a}, {30, 0, 0, 0}},
     {teleport_compare, {&json, &list}, {10, 2, 0, 0}},
     {teleport_compare, {&both_a, &list}, {12, 1, 47, 0}},
     {teleport_compare, {&season, &comma}, {3, 2, 3, 0}},
@@ -317,27 +325,43 @@ static struct outcome outcome_of(const struct pair *pair, const size_t words[2])
     return out;
 }
 
-static void call_with(const struct pair *pair, const size_t words[2], enum side side) {
-    const struct outcome wanted = outcome_of(pair, words);
+/* What is lent to a call with two texts. */
+struct lending {
     const uint8_t *texts[2];
-    uint32_t *tables[2], *answer = lend_words(&answer_area, 4, side);
-    size_t lengths[2];
+    size_t lengths[2], words[2];
+    uint32_t *tables[2], *answer;
+};
+
+static struct lending lend_pair(const struct pair *pair, const size_t words[2], enum side side) {
+    struct lending lent = {.words = {words[0], words[1]}, .answer = lend_words(&answer_area, 4, side)};
     for (int i = 0; i < 2; i++) {
-        lengths[i] = strlen(pair->texts[i]->text);
-        tables[i] = lend_words(&table_areas[i], words[i], side);
+        lent.lengths[i] = strlen(pair->texts[i]->text);
+        lent.tables[i] = lend_words(&table_areas[i], words[i], side);
         /* one text given twice stands in one place */
         int again = i == 1 && pair->texts[0] == pair->texts[1];
-        texts[i] = again ? texts[0] : lend_text(&text_areas[i], pair->texts[i]->text, lengths[i], side);
+        lent.texts[i] = again ? lent.texts[0] : lend_text(&text_areas[i], pair->texts[i]->text, lent.lengths[i], side);
     }
-    pair->call(texts[0], lengths[0], texts[1], lengths[1], tables[0], words[0], tables[1], words[1], answer);
-    struct lent answer_after = {&answer_area, answer, 4};
-    expect(holds(&answer_after, wanted.answer, 4), "the answer", pair->texts[0]->text, lengths[0]);
-    expect(guards_hold(&answer_after), "the words around the answer", pair->texts[0]->text, lengths[0]);
+    return lent;
+}
+
+static void expect_outcome(const struct pair *pair, const struct lending *lent, const struct outcome *wanted) {
+    struct lent answer_after = {&answer_area, lent->answer, 4};
+    expect(holds(&answer_after, wanted->answer, 4), "the answer", pair->texts[0]->text, lent->lengths[0]);
+    expect(guards_hold(&answer_after), "the words around the answer", pair->texts[0]->text, lent->lengths[0]);
     for (int i = 0; i < 2; i++) {
-        struct lent after = {&table_areas[i], tables[i], words[i]};
-        expect(holds(&after, pair->texts[i]->rows, wanted.filled[i]), "the table", pair->texts[i]->text, lengths[i]);
-        expect(guards_hold(&after), "the words around the table", pair->texts[i]->text, lengths[i]);
+        const struct text *text = pair->texts[i];
+        struct lent after = {&table_areas[i], lent->tables[i], lent->words[i]};
+        expect(holds(&after, text->rows, wanted->filled[i]), "the table", text->text, lent->lengths[i]);
+        expect(guards_hold(&after), "the words around the table", text->text, lent->lengths[i]);
     }
+}
+
+static void call_with(const struct pair *pair, const size_t words[2], enum side side) {
+    const struct outcome wanted = outcome_of(pair, words);
+    const struct lending lent = lend_pair(pair, words, side);
+    pair->call(lent.texts[0], lent.lengths[0], lent.texts[1], lent.lengths[1], lent.tables[0], words[0], lent.tables[1], words[1],
+        lent.answer);
+    expect_outcome(pair, &lent, &wanted);
 }
 
 /* Tables of every small length: both, and each beside one with room. */
@@ -418,6 +442,92 @@ static void compact_longest(void) {
     text_areas[0] = map_area(LONGEST);
 }
 
+/* Compare's sister: buffers of the least length and about it, and tables of every small length. */
+
+static uint32_t room_tables[2][LONG_ROWS * TELEPORT_ROW_WORDS];
+
+/* Check's code, with room for everything. */
+static uint32_t checked(const uint8_t *document, size_t length, const uint8_t *schema, size_t schema_length) {
+    uint32_t answer[4];
+    size_t words = LONG_ROWS * TELEPORT_ROW_WORDS;
+    teleport_check(document, length, schema, schema_length, room_tables[0], words, room_tables[1], words, answer);
+    return answer[TELEPORT_CODE];
+}
+
+/* 02, L1: "a document that meets the new schema and fails the old", "Check, lent enough room, must confirm both". */
+static int shows(const uint8_t *document, size_t length, const struct lending *schemas) {
+    uint32_t fails = checked(document, length, schemas->texts[1], schemas->lengths[1]);
+    return checked(document, length, schemas->texts[0], schemas->lengths[0]) == TELEPORT_OK
+        && fails >= TELEPORT_WRONG_KIND && fails <= TELEPORT_NO_DATE;
+}
+
+/* All is Compare's, but on 30 the length and the buffer; a short buffer is "judged before everything else". */
+static void exhibit_with(const struct pair *pair, const size_t words[2], size_t room, enum side side) {
+    const struct outcome too_short = {{TELEPORT_SHORT_FOR_DOCUMENT, 0, 0, 0}, {0, 0}};
+    struct outcome wanted = room < TELEPORT_DOCUMENT_LIMIT ? too_short : outcome_of(pair, words);
+    const struct lending lent = lend_pair(pair, words, side);
+    const char *name = pair->texts[0]->text;
+    static uint8_t document[LONGEST];
+    uint8_t *buffer = lend_bytes(&buffer_area, room, side);
+    size_t written = 0;
+    teleport_counterexample(lent.texts[0], lent.lengths[0], lent.texts[1], lent.lengths[1], lent.tables[0], words[0],
+        lent.tables[1], words[1], buffer, room, lent.answer);
+    if (wanted.answer[TELEPORT_CODE] == TELEPORT_NOT_CARRIED && lent.answer[TELEPORT_OTHER] <= LONGEST) {
+        wanted.answer[TELEPORT_OTHER] = (uint32_t)(written = lent.answer[TELEPORT_OTHER]);
+        memcpy(document, buffer, written);
+        expect(shows(document, written, &lent), "the document", name, lent.lengths[0]);
+    }
+    expect_outcome(pair, &lent, &wanted);
+    expect(bytes_hold(&buffer_area, buffer, (const char *)document, written), "the bytes around the document", name, lent.lengths[0]);
+}
+
+static void exhibit_pair(const struct pair *pair) {
+    const size_t rooms[] = {0, 1, LONGEST - 1, LONGEST, LONGEST + 1}, roomy[2] = {ROOM, ROOM};
+    for (size_t i = 0; i < sizeof rooms / sizeof *rooms; i++) {
+        buffer_area = rooms[i] > LONGEST ? larger_area : whole_area;
+        exhibit_with(pair, roomy, rooms[i], AT_START);
+        exhibit_with(pair, roomy, rooms[i], AT_END);
+    }
+    buffer_area = whole_area;
+    for (size_t words = 0; words <= 60; words++) {
+        const size_t lengths[3][2] = {{words, words}, {words, ROOM}, {ROOM, words}};
+        exhibit_with(pair, lengths[words % 3], LONGEST, words % 2 ? AT_START : AT_END);
+    }
+}
+
+static void exhibit_pairs(void) {
+    struct area before = buffer_area;
+    whole_area = map_area(LONGEST);
+    larger_area = map_area(LONGEST + 1);
+    for (size_t i = 0; i < sizeof pairs / sizeof *pairs; i++)
+        if (pairs[i].call == teleport_compare) exhibit_pair(&pairs[i]);
+    buffer_area = before;
+}
+
+/* A new schema of the longest length, its rows as Read writes them, in pages and tables that end where they end. */
+static void exhibit_longest(void) {
+    static char schema[TELEPORT_SCHEMA_LIMIT + 1];
+    size_t length = (size_t)sprintf(schema, "{\"Object\":{\"required\":{\"n\":\"DateTime\"");
+    for (unsigned i = 0; length + 40 < TELEPORT_SCHEMA_LIMIT; i++) length += (size_t)sprintf(schema + length, ",\"%x\":\"DateTime\"", i);
+    length += (size_t)sprintf(schema + length, "}}}");
+    memset(schema + length, ' ', TELEPORT_SCHEMA_LIMIT - length);
+    uint32_t answer[4];
+    teleport_read((const uint8_t *)schema, TELEPORT_SCHEMA_LIMIT, longest_rows, LONG_ROWS * TELEPORT_ROW_WORDS, answer);
+    const struct text wide = {schema, longest_rows, answer[TELEPORT_OTHER] * TELEPORT_ROW_WORDS};
+    const struct pair failing = {teleport_compare, {&wide, &integer}, {TELEPORT_NOT_CARRIED, 0, 0, 0}};
+    const size_t words[2] = {wide.words, integer.words}, less[2] = {wide.words - 1, integer.words};
+    struct area text = text_areas[0], table = table_areas[0], before = buffer_area;
+    text_areas[0] = map_area(TELEPORT_SCHEMA_LIMIT);
+    table_areas[0] = map_area(wide.words * sizeof(uint32_t));
+    buffer_area = whole_area;
+    exhibit_with(&failing, words, LONGEST, AT_START);
+    exhibit_with(&failing, words, LONGEST, AT_END);
+    exhibit_with(&failing, less, LONGEST, AT_END);
+    text_areas[0] = text;
+    table_areas[0] = table;
+    buffer_area = before;
+}
+
 int main(void) {
     setvbuf(stdout, NULL, _IOLBF, BUFSIZ); /* what failed is seen before a trap ends the program */
     for (int i = 0; i < 2; i++) {
@@ -429,6 +539,8 @@ int main(void) {
     for (size_t i = 0; i < sizeof readings / sizeof *readings; i++) read_beginnings(&readings[i]);
     for (size_t i = 0; i < sizeof pairs / sizeof *pairs; i++) call_pair(&pairs[i]);
     for (size_t i = 0; i < sizeof writings / sizeof *writings; i++) compact_text(&writings[i]);
+    exhibit_pairs();
+    exhibit_longest();
     make_longest(longest, longest_rows);
     text_areas[0] = map_area(LONGEST);
     table_areas[0] = map_area(sizeof longest_rows);

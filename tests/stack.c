@@ -101,7 +101,7 @@ static void nest(struct text *text, const struct nesting *how, unsigned levels, 
 typedef void service(const uint8_t *, size_t, const uint8_t *, size_t, uint32_t *, size_t, uint32_t *, size_t, uint32_t *);
 
 struct call {
-    service *call; /* Check, Compare or Compact; NULL is Read of the first text */
+    service *call; /* Check, Compare, Compact or Counterexample; NULL is Read of the first text */
     const struct text *texts[2];
     uint32_t answer[4];
     uintptr_t frame;
@@ -117,6 +117,12 @@ static void compact(const uint8_t *text, size_t length, const uint8_t *none, siz
                     uint32_t *table, size_t words, uint32_t *no_table, size_t no_words, uint32_t *answer) {
     (void)none, (void)no_length, (void)no_table, (void)no_words;
     teleport_compact(text, length, table, words, buffer, room, answer);
+}
+
+/* Compare's sister, in the shape of the others: its buffer has the least room. */
+static void counterexample(const uint8_t *new, size_t new_length, const uint8_t *old, size_t old_length,
+                           uint32_t *table1, size_t words1, uint32_t *table2, size_t words2, uint32_t *answer) {
+    teleport_counterexample(new, new_length, old, old_length, table1, words1, table2, words2, buffer, sizeof buffer, answer);
 }
 
 /* What the thread does. Its own frame is where the stack of the call begins. */
@@ -158,6 +164,9 @@ static struct text first, second;
  */
 enum { SHORT = 256, LONG = 65536, WIDE = 8 * 16384 };
 
+/* The fourth number, where it is free. */
+#define ANY UINT32_MAX
+
 /* Makes a call with the two texts, and begins new ones. */
 static void measure(const char *name, service *call, uint32_t code, uint32_t other, size_t more_than) {
     struct call c = {call, {&first, &second}, {0, 0, 0, 0}, 0};
@@ -165,7 +174,7 @@ static void measure(const char *name, service *call, uint32_t code, uint32_t oth
     printf("%s: %zu bytes of stack\n", name, used);
     /* Of the refusals only a bracket too many is tried, and it is the first of its kind. */
     const uint8_t *bracket = code == TELEPORT_TOO_DEEP ? memchr(first.bytes, '[', first.length) : NULL;
-    uint32_t answer[4] = {code, bracket != NULL, bracket ? (uint32_t)(bracket - first.bytes) : 0, other};
+    uint32_t answer[4] = {code, bracket != NULL, bracket ? (uint32_t)(bracket - first.bytes) : 0, other == ANY ? c.answer[3] : other};
     expect(memcmp(c.answer, answer, sizeof answer) == 0, "the answer", name);
     expect(used < TELEPORT_STACK_BYTES, "less stack than the header says", name);
     expect(used > more_than, "as much stack as it must need at least", name);
@@ -251,6 +260,29 @@ static void measure_compare(void) {
     measure("Compare, 24 arrays", teleport_compare, 0, 0, SHORT);
 }
 
+/* Pairs with 30; which document is written, and so its length, is free. */
+static void measure_counterexample(void) {
+    put(&first, "\"Float\"");
+    put(&second, "\"Integer\"");
+    measure("Counterexample, short texts", counterexample, 30, ANY, SHORT);
+    nest(&first, &required, 8, MANY, "\"Float\"");
+    pad(&first, LONG_SCHEMA);
+    nest(&second, &required, 8, MANY, "\"Integer\"");
+    pad(&second, LONG_SCHEMA);
+    measure("Counterexample, longest schemas, 8 objects of 40 required names", counterexample, 30, ANY, WIDE);
+    open_nest(&first, &required, 7, MANY);
+    put_definition(&first);
+    repeat(&first, required.close, 7);
+    nest(&second, &required, 7, MANY, "{\"Map\":\"Integer\"}");
+    measure("Counterexample, a made-up name inside 7 objects of 40 names", counterexample, 30, ANY, WIDE / 8 * 7);
+    wrap(&first, "{\"Array\":", "\"Schema\"", "}", 24);
+    wrap(&second, "{\"Array\":", "\"Float\"", "}", 24);
+    measure("Counterexample, 24 arrays", counterexample, 30, ANY, SHORT);
+    wrap(&first, "{\"Map\":", "\"JSON\"", "}", 24);
+    wrap(&second, "{\"Map\":", "\"Schema\"", "}", 24);
+    measure("Counterexample, 24 maps", counterexample, 30, ANY, SHORT);
+}
+
 /* With a buffer of any length, what is written for the first text being so long. */
 static void measure_compact_with(const char *name, size_t room_lent, size_t needed, size_t more_than) {
     room = room_lent;
@@ -280,6 +312,7 @@ int main(void) {
     measure_check();
     measure_schema();
     measure_compare();
+    measure_counterexample();
     printf("%lu passed, %lu failed\n", passed, failed);
     return failed != 0;
 }

@@ -6,6 +6,7 @@ ghost use Rattle.reader.specs.Answer.{documentLimits, readWithin, answerOf, tab
 ghost use Rattle.schema.specs.Check.{readSchema, checkAnswer, checkTable, Meeting};
 ghost use Rattle.schema.specs.Compare.{Compares, compareTable};
 ghost use Rattle.writer.specs.Compact.{compactAnswer, compactBuffer};
+ghost use Rattle.counterexample.specs.Counterexample.{Promises, tableUnlessShort};
 ghost use Rattle.teleport_c.specs.Words.{answerWords, code, Written};
 
 // The four numbers of an answer.
@@ -70,4 +71,21 @@ pub extern "C" fn teleport_compact(
     ensures writes { λ _. ⌜ now (buffer .exit) ≡ compactBuffer (length (now (table .entry))) (now (buffer .entry)) (now (text .entry)) ⌝ }
 {
     *answer = words(writer::compact(text, table, buffer));
+}
+
+// Compare's sister (02, L1): with a buffer for a document that meets the new schema and fails the old.
+#[no_mangle]
+pub extern "C" fn teleport_counterexample(
+    new: &[u8],
+    old: &[u8],
+    table1: &mut [u32],
+    table2: &mut [u32],
+    buffer: &mut [u8],
+    answer: &mut [u32; 4],
+)
+    ensures promises { λ _. ⌜ Written (λ r. Promises (length (now (table1 .entry))) (length (now (table2 .entry))) (now (new .entry)) (now (old .entry)) r (now (buffer .entry)) (now (buffer .exit))) (now (answer .exit)) ⌝ }
+    ensures rows1 { λ _. ⌜ now (table1 .exit) ≡ tableUnlessShort (length (now (buffer .entry))) (now (table1 .entry)) (tableOf (now (table1 .entry)) (readSchema (now (new .entry)))) ⌝ }
+    ensures rows2 { λ _. ⌜ now (table2 .exit) ≡ tableUnlessShort (length (now (buffer .entry))) (now (table2 .entry)) (compareTable (length (now (table1 .entry))) (now (table2 .entry)) (now (new .entry)) (now (old .entry))) ⌝ }
+{
+    *answer = words(counterexample::counterexample(new, old, table1, table2, buffer));
 }
