@@ -7,6 +7,7 @@ function of the texts, the tables and the buffer.
 """
 
 import argparse
+import copy
 import ctypes
 import os
 from array import array
@@ -75,6 +76,12 @@ class Words:
         self.count = count
         self.memory = array(self.code, chance.randbytes(array(self.code).itemsize * (count + 2 * GUARD)))
         self.found = self.memory[:]
+
+    def again(self):
+        """Another one with the same words and guards."""
+        other = copy.copy(self)
+        other.memory = self.found[:]
+        return other
 
     def address(self):
         return self.memory.buffer_info()[0] + self.memory.itemsize * GUARD

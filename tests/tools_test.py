@@ -8,6 +8,7 @@ bytes. All other files of the folder must be as they were, and no other may be t
 
 import itertools
 import os
+import random
 import resource
 import signal
 import stat
@@ -16,18 +17,29 @@ import sys
 import tempfile
 
 import edge_cases_compact
+import edge_cases_counterexample
 import generate
+import generate_failing
+import generate_pairs
 import generate_spellings
 import harness
 import model
+from model_check import check
 from model_compact import compact, spelling
-from program_test import (BROKEN, DOCUMENTS, Folder, GENERATED, LONG, NO_FILE, absent_names, bound_user, line_of, ones,
-                          padded_name, spaced)
+from model_compare import NOT_CARRIED
+from model_counterexample import LEAST_BUFFER, counterexample
+from program_test import (BROKEN, DOCUMENTS, Folder, GENERATED, JSON, LONG, NO_FILE, SCHEMAS, absent_names, bound_user, line_of,
+                          ones, padded_name, spaced)
 
 FILE = b' { "b" : "\\u001F\\/" , "a" : [ 1.0 ] } '
 WRITTEN = b'{"b":"\\u001f/","a":[1.0]}'
 DONE = "0 0 0 25"
+NEW_SCHEMA = b'{"Object":{"required":{"b":"Boolean","a":"Float"}}}'
+OLD_SCHEMA = b'{"Object":{"required":{"a":"Integer"}}}'
+DOCUMENT = b'{"a":0.5,"b":true}'
+SHOWN = "30 0 0 18\n20 1 5 27"    # and where the old schema is not met
 OLD = b"what stood here before"
+OUTPUTS = ["out", "there", "nothing/out", "/dev/null", "folder", "x" * 100000]
 LARGEST_FILE = 16       # bytes, where files are kept short: less than is written
 
 
@@ -67,23 +79,44 @@ class Tools(Folder):
         return name + ", files that should not have changed: %s %s" % (left, gone), right and found == written and not left and not gone
 
 
+def jobs(tools):
+    """For each command its words before OUT, its lines and what it writes."""
+    return [(["compact", tools.file(FILE)], DONE, WRITTEN),
+            (["counterexample", tools.file(NEW_SCHEMA), tools.file(OLD_SCHEMA)], SHOWN, DOCUMENT)]
+
+
+def small_jobs(tools):
+    """The same, with less to write."""
+    return [(["compact", tools.file(b" [ ] ")], "0 0 0 2", b"[]"),
+            (["counterexample", tools.file(b'"Float"'), tools.file(b'"Integer"')], "30 0 0 3\n20 1 0 0", b"0.5")]
+
+
 # Results: a description, and whether it holds.
 
 def argument_results(tools):
     """Another number of files than the command takes; a word that is no command."""
     file = tools.file(FILE)
-    for words in [[], ["compact"], ["compact", file], ["compact", file, "out", "out"]]:
-        yield tools.holds(words, NO_FILE)
-    for word in ["", "x", "Compact", "compac", "compacts", "compact ", "-compact", "read", "check", "x" * 16, "x" * 17, "x" * 100000]:
+    for words, _, _ in jobs(tools):
+        for count in range(len(words) + 1):
+            yield tools.holds(words[:count], NO_FILE)
+        yield tools.holds([*words, "out", "out"], NO_FILE)
+        for word in [words[0].capitalize(), words[0][:-1], words[0] + "s", words[0] + " ", "-" + words[0]]:
+            yield tools.holds([word, *words[1:], "out"], NO_FILE)
+    for word in ["", "x", "read", "check", "compare", "x" * 16, "x" * 17, "x" * 100000]:
         yield tools.holds([word, file, "out"], NO_FILE)
+        yield tools.holds([word, file, file, "out"], NO_FILE)
+    yield tools.holds(["compact", file, file, "out"], NO_FILE)
+    yield tools.holds(["counterexample", file, "out"], NO_FILE)
 
 
 def input_results(tools):
     """A file that cannot be opened or read, whether there is a file to write or not."""
-    there = tools.write("there", OLD)
-    for name in absent_names(tools):
-        yield tools.holds(["compact", name, "out"], NO_FILE)
-        yield tools.holds(["compact", name, there], NO_FILE)
+    there, broken = tools.write("there", OLD), tools.file(BROKEN)
+    for name, out in itertools.product(absent_names(tools), ["out", there]):
+        yield tools.holds(["compact", name, out], NO_FILE)
+        yield tools.holds(["counterexample", name, tools.file(OLD_SCHEMA), out], NO_FILE)
+        yield tools.holds(["counterexample", tools.file(NEW_SCHEMA), name, out], NO_FILE)
+        yield tools.holds(["counterexample", broken, name, out], NO_FILE)
 
 
 def refusal_results(tools):
@@ -94,37 +127,66 @@ def refusal_results(tools):
         if refusal is None or refusal[0] == "8":
             yield tools.holds([*arguments, "out"], line_of((0, 0, 0, len(spelling(text)))), {"out": spelling(text)})
             continue
-        for out in ["out", there, arguments[1], "nothing/out", "/dev/null", "folder", "x" * 100000]:
+        for out in [*OUTPUTS, arguments[1], there]:
             yield tools.holds([*arguments, out], refusal)
 
 
+def schema_results(tools):
+    """Nothing is written with another code than 30: a schema that is refused, as the first and as the second, and one that
+    is carried. The tables have room for every schema."""
+    tools.write("there", OLD)
+    for text, refusal in SCHEMAS:
+        taken = refusal is None or refusal[0] == "8"
+        for place in (1, 2):
+            files = [tools.file(JSON), tools.file(JSON)]
+            files[place - 1] = tools.file(text)
+            if taken and place == 2 and text.strip() != JSON:
+                continue
+            for out in [*OUTPUTS, *files]:
+                yield tools.holds(["counterexample", *files, out], "0 0 0 0" if taken else refusal % place)
+    for first, second in itertools.product([BROKEN, b"[]", b""], repeat=2):
+        line = {BROKEN: "3 1 3 0", b"[]": "10 1 0 0", b"": "2 1 0 0"}[first]
+        yield tools.holds(["counterexample", tools.file(first), tools.file(second), "out"], line)
+
+
 def output_results(tools):
-    """A file that is not there; one with fewer or more bytes, the file that is read, and another name of it."""
-    file = tools.file(FILE)
+    """A file that is not there; one with fewer or more bytes."""
     longest = os.pathconf(tools.path, "PC_PATH_MAX") - 1
-    for out in ["out", "x" * 255, " ", "-", "new\nline", "compact"]:
-        yield tools.holds(["compact", file, out], DONE, {out: WRITTEN})
-        for old in [b"", OLD, b"x" * LONG]:
-            tools.write(out, old)
-            yield tools.holds(["compact", file, out], DONE, {out: WRITTEN})
-    for length in [longest - 1, longest]:
-        yield tools.holds(["compact", file, padded_name("out", length)], DONE, {"out": WRITTEN})
-    yield tools.holds(["compact", file, "folder/out"], DONE, {"folder/out": WRITTEN})
-    yield tools.holds(["compact", file, str(tools.path / "out")], DONE, {"out": WRITTEN})
-    tools.write("same", FILE)
-    yield tools.holds(["compact", "same", "same"], DONE, {"same": WRITTEN})
-    tools.write("same", WRITTEN)
-    yield tools.holds(["compact", "./same", "same"], DONE, {"same": WRITTEN})
+    for words, line, written in jobs(tools):
+        for out in ["out", "x" * 255, " ", "-", "new\nline", "compact"]:
+            yield tools.holds([*words, out], line, {out: written})
+            for old in [b"", OLD, b"x" * LONG]:
+                tools.write(out, old)
+                yield tools.holds([*words, out], line, {out: written})
+        for length in [longest - 1, longest]:
+            yield tools.holds([*words, padded_name("out", length)], line, {"out": written})
+        yield tools.holds([*words, "folder/out"], line, {"folder/out": written})
+        yield tools.holds([*words, str(tools.path / "out")], line, {"out": written})
+
+
+def same_results(tools):
+    """The file that is written is one that is read, or another name of it."""
+    for text, name in [(FILE, "same"), (WRITTEN, "./same")]:
+        tools.write("same", text)
+        yield tools.holds(["compact", name, "same"], DONE, {"same": WRITTEN})
+    for name, out in itertools.product(["same", "./same"], ["same", "./same"]):
+        tools.write("same", NEW_SCHEMA)
+        yield tools.holds(["counterexample", name, tools.file(OLD_SCHEMA), out], SHOWN, {"same": DOCUMENT})
+        tools.write("same", OLD_SCHEMA)
+        yield tools.holds(["counterexample", tools.file(NEW_SCHEMA), name, out], SHOWN, {"same": DOCUMENT})
+        tools.write("same", JSON)
+        yield tools.holds(["counterexample", name, name, "out"], "0 0 0 0")
 
 
 def rights_results(tools):
     """A file that is replaced keeps who may do what with it; a new one has the rights that the process gives to new files."""
     umask = os.umask(0)
     os.umask(umask)
-    for old, new in [(None, 0o666 & ~umask), (0o600, 0o600), (0o644, 0o644), (0o755, 0o755), (0o666, 0o666), (0o4755, 0o755)]:
+    modes = [(None, 0o666 & ~umask), (0o600, 0o600), (0o644, 0o644), (0o755, 0o755), (0o666, 0o666), (0o4755, 0o755)]
+    for (words, line, _), (old, new) in itertools.product(jobs(tools), modes):
         if old is not None:
             tools.write("out", OLD, mode=old)
-        yield tools.result((["compact", tools.file(FILE), "out"], DONE))
+        yield tools.result(([*words, "out"], line))
         mode = stat.S_IMODE(os.lstat(tools.path / "out").st_mode)
         os.unlink(tools.path / "out")
         yield "the rights of a %s: %o" % ("new file" if old is None else "file that had %o" % old, mode), mode == new
@@ -132,29 +194,30 @@ def rights_results(tools):
 
 def no_output_results(tools):
     """What cannot be written: folders, paths that lead nowhere, links, devices, a pipe, a name that is too long."""
-    file = tools.file(FILE)
     longest = os.pathconf(tools.path, "PC_PATH_MAX") - 1
     there = tools.write("there", OLD)
     (tools.path / "link").symlink_to("there")
     os.mkfifo(tools.path / "pipe")
-    for out in ["", "folder", "folder/", ".", "/", "nothing/out", "out/", there + "/", there + "/x", "link", "link-to-nothing",
-                "link-to-folder", "link-to-itself", "pipe", "/dev/null", "/dev/full", "/dev/stdout", "/dev/stdin", "x" * 256,
-                "x" * 100000, padded_name("out", longest + 1)]:
-        yield tools.holds(["compact", file, out], NO_FILE)
+    outputs = ["", "folder", "folder/", ".", "/", "nothing/out", "out/", there + "/", there + "/x", "link", "link-to-nothing",
+               "link-to-folder", "link-to-itself", "pipe", "/dev/null", "/dev/full", "/dev/stdout", "/dev/stdin", "x" * 256,
+               "x" * 100000, padded_name("out", longest + 1)]
+    for (words, _, _), out in itertools.product(jobs(tools), outputs):
+        yield tools.holds([*words, out], NO_FILE)
 
 
 def rights_of_output_results(tools):
     """A file that may not be written, and a folder in which nothing may be made."""
-    user, file = bound_user(), tools.file(FILE)
+    user = bound_user()
     shut = tools.path / "shut"
     shut.mkdir()
     tools.write("shut/there", OLD, mode=0o666)
     shut.chmod(0o555)
     tools.write("read-only", OLD, mode=0o444)
     try:
-        yield tools.holds(["compact", file, "out"], DONE, {"out": WRITTEN}, user=user)
-        for out in ["read-only", "shut/out", "shut/there"]:
-            yield tools.holds(["compact", file, out], NO_FILE, user=user)
+        for words, line, written in jobs(tools):
+            yield tools.holds([*words, "out"], line, {"out": written}, user=user)
+            for out in ["read-only", "shut/out", "shut/there"]:
+                yield tools.holds([*words, out], NO_FILE, user=user)
     except (OSError, subprocess.SubprocessError) as problem:
         yield "a file that may not be written cannot be shown here: %s" % problem, False
     finally:
@@ -168,12 +231,13 @@ def keep_files_short():
 
 def cut_results(tools):
     """A write that fails halfway: nothing is made, and what was there stays."""
-    file, there = tools.file(FILE), tools.write("there", OLD)
-    small, spelled = tools.file(b" [ ] "), b"[]"
+    there = tools.write("there", OLD)
     options = {"user": {"preexec_fn": keep_files_short}}
-    yield tools.holds(["compact", small, "out"], "0 0 0 2", {"out": spelled}, **options)
-    for out in ["out", there, file]:
-        yield tools.holds(["compact", file, out], NO_FILE, **options)
+    for words, line, written in small_jobs(tools):
+        yield tools.holds([*words, "out"], line, {"out": written}, **options)
+    for words, _, _ in jobs(tools):
+        for out in ["out", there, *words[1:]]:
+            yield tools.holds([*words, out], NO_FILE, **options)
 
 
 def length_results(tools):
@@ -200,6 +264,29 @@ def generated_results(tools):
         yield tools.holds(["compact", "text", "out"], line_of(answer), written)
 
 
+def shown(tools, new, old):
+    """Of two schemas the model's answer, and on 30 its document, and Check's answer under the old."""
+    buffer, tables = [0] * LEAST_BUFFER, [[0] * (model.ROW_WORDS * LEAST_BUFFER) for _ in range(2)]
+    answer = counterexample(new, old, *tables, buffer)
+    words = ["counterexample", tools.write("new", new), tools.write("old", old), "out"]
+    if answer[0] != NOT_CARRIED:
+        return tools.holds(words, line_of(answer))
+    document = bytes(buffer[:answer[3]])
+    return tools.holds(words, line_of(answer) + "\n" + line_of(check(document, old, *tables)), {"out": document})
+
+
+def counterexample_results(tools):
+    """Stated pairs, those of each kind of failing, and pairs of any kind."""
+    seed = harness.DEFAULT_SEED
+    for new, old, _ in edge_cases_counterexample.CASES:
+        yield shown(tools, new, old)
+    for kind in generate_failing.KINDS.values():
+        for pair in itertools.islice(kind(random.Random(seed)), 10):
+            yield shown(tools, *pair)
+    for pair in itertools.islice(generate_pairs.schema_pairs(seed), GENERATED):
+        yield shown(tools, *pair)
+
+
 def twice_results(tools):
     """Two spellings of one value are one file, and so is that file's own."""
     tools.write("one", FILE)
@@ -212,8 +299,9 @@ def twice_results(tools):
 
 
 def results(tools):
-    groups = [argument_results, input_results, refusal_results, output_results, rights_results, no_output_results,
-              rights_of_output_results, cut_results, length_results, generated_results, twice_results]
+    groups = [argument_results, input_results, refusal_results, schema_results, output_results, same_results, rights_results,
+              no_output_results, rights_of_output_results, cut_results, length_results, generated_results,
+              counterexample_results, twice_results]
     return itertools.chain.from_iterable(group(tools) for group in groups)
 
 

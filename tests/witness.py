@@ -48,15 +48,27 @@ def with_member(wanted, name, value):
     return object_of({name: value, **others(wanted, name)})
 
 
-def run(name):
-    """How many 'a's a name begins with."""
-    return len(name) - len(name.lstrip("a"))
+def behind(letter, names):
+    """What follows the letter in the names that begin with it."""
+    return [name[1:] for name in names if name.startswith(letter)]
+
+
+def rarer(names):
+    """The letter with which fewer of the names begin."""
+    return "a" if len(behind("a", names)) <= len(behind("b", names)) else "b"
+
+
+def avoiding(names):
+    """Letters that none of the names begins with."""
+    if not names:
+        return ""
+    letter = rarer(names)
+    return letter + avoiding(behind(letter, names))
 
 
 def fresh(wanted):
-    """A name that the definition does not name."""
-    names = [*wanted.required, *wanted.optional] if wanted.form == "Object" else []
-    return "a" * (1 + max(map(run, names), default=0))
+    """A name that the definition does not name: an "a" and letters."""
+    return "a" + avoiding(behind("a", [*wanted.required, *wanted.optional]))
 
 
 def other(wanted):
@@ -83,20 +95,23 @@ def witness(new, old):
     if old.form == "Array":
         return array(witness(new.inner, old.inner)) if new.form == "Array" else sample(new)
     if old.form == "Map":
-        if not objects:
-            return sample(new)
-        name = fresh(new)
-        return with_member(new, name, witness(other(new), old.inner))
+        return with_member(new, fresh(new), witness(other(new), old.inner)) if objects else sample(new)
     if old.form == "Object":
-        return witness_of_fields(new, old) if objects else sample(new)
+        return witness_of_object(new, old) if objects else sample(new)
     return beyond_named(new)
 
 
-def witness_of_fields(new, old):
-    """A required name that the new does not require; else the first field that fails."""
-    if new.form == "Map" and old.required or any(name not in new.required for name in old.required):
-        return sample(new)
-    for name, wanted in [*old.required.items(), *old.optional.items()]:
+def witness_of_object(new, old):
+    return (witness_fields(True, new, old.required) or witness_fields(False, new, old.optional)
+            or sample(new))
+
+
+def witness_fields(required, new, fields):
+    """The first of the old fields that fails gives the member; None where none does.
+    A required name that the new does not ask for is missing in its sample."""
+    for name, wanted in fields.items():
+        if required and name not in new.required:
+            return sample(new)
         if not carried(under(new, name), wanted):
             return with_member(new, name, witness(under(new, name), wanted))
-    return sample(new)
+    return None

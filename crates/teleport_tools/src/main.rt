@@ -17,6 +17,9 @@ const TEXT: usize = 65537;
 // Room for every document: rows number at most the bytes, and have five words each.
 const TABLE: usize = 327680;
 
+// Room for every schema, of 16,384 bytes.
+const SCHEMA_TABLE: usize = 81920;
+
 // `compact FILE OUT`. What is written is never longer than the text, so that the buffer has room.
 fn compact() {
     let mut text = [0u8; TEXT];
@@ -37,9 +40,47 @@ fn compact() {
     answer(a);
 }
 
+// `counterexample NEW OLD OUT`.
+fn counterexample() {
+    let mut new = [0u8; TEXT];
+    let Loaded::Bytes(n) = load(2, &mut new) else {
+        no_file();
+        return;
+    };
+    let mut old = [0u8; TEXT];
+    let Loaded::Bytes(m) = load(3, &mut old) else {
+        no_file();
+        return;
+    };
+    exhibit(&new[..n], &old[..m]);
+}
+
+// The same of the two texts. On 30 the document is written, and judged by the old schema: the second
+// line is where an old board stops. The buffer has the length that the service asks for. The first
+// table is the new schema's, then the document's.
+fn exhibit(new: &[u8], old: &[u8]) {
+    let mut table1 = [0u32; TABLE];
+    let mut table2 = [0u32; SCHEMA_TABLE];
+    let mut buffer = [0u8; LIMIT];
+    let a = counterexample::counterexample(new, old, &mut table1, &mut table2, &mut buffer);
+    if a.code == 30 {
+        let length = a.other as usize;
+        if !save(4, &buffer[..length]) {
+            no_file();
+            return;
+        }
+        answer(a);
+        answer(schema::check(&buffer[..length], old, &mut table1, &mut table2));
+        return;
+    }
+    answer(a);
+}
+
 fn main() {
     if asks(b"compact", 4) {
         compact();
+    } else if asks(b"counterexample", 5) {
+        counterexample();
     } else {
         no_file();
     }
