@@ -373,3 +373,75 @@ const struct pair_input pair_inputs[] = {
     { "compare-widest", make_wide_schema, make_wide_schema_backwards, 1, 0, 0 },
 };
 const size_t pair_input_count = sizeof pair_inputs / sizeof *pair_inputs;
+
+/* The widest schema backwards, a name less, and what fails under the last one that is left. */
+static void make_wide_schema_failing(struct text *t) {
+    uint32_t names = defined_names(), required = names / 2;
+    add(t, "{\"Object\":{\"required\":{");
+    add_names(t, 0, required, 1, "\"JSON\"");
+    add(t, "},\"optional\":{");
+    add_names(t, required + 2, names - required - 2, 1, "\"JSON\"");
+    add_byte(t, ',');
+    add_names(t, required, 1, 0, "\"Float\"");
+    add(t, "}}}");
+}
+
+/* As many names as fit, all of them required: the longest document. */
+static void make_dates(struct text *t) {
+    char name[8];
+    add(t, "{\"Object\":{\"required\":{");
+    size_t mark = t->length;
+    for (uint32_t number = 0;; number++) {
+        short_name(number, name);
+        add(t, "%s\"%s\":\"DateTime\"", number ? "," : "", name);
+        if (!fits(t, &mark, 3)) break;
+    }
+    add(t, "}}}");
+}
+
+/* Names that begin with the same letters in all ways: a name that is none of them has 11 letters. */
+static void make_alike(struct text *t) {
+    enum { LETTERS = 9 };
+    add(t, "{\"Object\":{\"optional\":{");
+    for (uint32_t number = 0; number < 1u << LETTERS; number++) {
+        add(t, "%s\"a", number ? "," : "");
+        for (int i = 0; i < LETTERS; i++) add_byte(t, number >> i & 1 ? 'a' : 'b');
+        add(t, "\":\"JSON\"");
+    }
+    add(t, "}}}");
+}
+
+static void make_map(struct text *t) {
+    add(t, "{\"Map\":\"Integer\"}");
+}
+
+static void make_float(struct text *t) {
+    add(t, "\"Float\"");
+}
+
+/* Objects in objects, with many names each, and a type under the last name of the last. */
+static void add_nested(struct text *t, const char *type) {
+    enum { LEVELS = 8, NAMES = 40 };
+    for (int level = 0; level < LEVELS; level++) {
+        add(t, "{\"Object\":{\"required\":{");
+        for (int i = 0; i < NAMES; i++) add(t, "\"n%d\":%s", i, i + 1 < NAMES ? "\"JSON\"," : "");
+    }
+    add(t, "%s", type);
+    for (int level = 0; level < LEVELS; level++) add(t, "}}}");
+}
+
+static void make_nested(struct text *t) {
+    add_nested(t, "\"Float\"");
+}
+
+static void make_nested_narrower(struct text *t) {
+    add_nested(t, "\"Integer\"");
+}
+
+const struct pair_input shown_inputs[] = {
+    { "widest", make_wide_schema, make_wide_schema_failing, 1, 0, 0 },
+    { "longest", make_dates, make_float, 1, 0, 0 },
+    { "made-up-name", make_alike, make_map, 1, 0, 0 },
+    { "nested", make_nested, make_nested_narrower, 1, 0, 0 },
+};
+const size_t shown_input_count = sizeof shown_inputs / sizeof *shown_inputs;

@@ -40,4 +40,8 @@ struct pair_input {
 extern const struct pair_input pair_inputs[];
 extern const size_t pair_input_count;
 
+/* For Counterexample: a new schema, and an old one that it is not carried to. */
+extern const struct pair_input shown_inputs[];
+extern const size_t shown_input_count;
+
 #endif

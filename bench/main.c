@@ -35,7 +35,7 @@ static const double long_seconds = 0.1;
 /* A figure beyond its bound is marked. */
 static const double twice_bound = 2.2, check_bound = 2.5, writing_bound = 1.0, no_bound = 1e9;
 
-enum service { READ, PLAIN_READ, CHECK, COMPARE, COMPACT };
+enum service { READ, PLAIN_READ, CHECK, COMPARE, COMPACT, COUNTEREXAMPLE };
 
 static void call(enum service service, const struct text *a, const struct text *b, uint32_t *answer) {
     switch (service) {
@@ -48,6 +48,10 @@ static void call(enum service service, const struct text *a, const struct text *
         teleport_compare(a->bytes, a->length, b->bytes, b->length, table1, TABLE_WORDS, table2, TABLE_WORDS, answer);
         break;
     case COMPACT: teleport_compact(a->bytes, a->length, table1, TABLE_WORDS, buffer, a->length, answer); break;
+    case COUNTEREXAMPLE:
+        teleport_counterexample(a->bytes, a->length, b->bytes, b->length, table1, TABLE_WORDS, table2, TABLE_WORDS,
+                                buffer, sizeof buffer, answer);
+        break;
     }
 }
 
@@ -270,6 +274,28 @@ static void pair_all(void) {
     for (size_t i = 0; i < pair_input_count; i++) pair_of(&pair_inputs[i]);
 }
 
+/* Counterexample beside Compare of the same schemas, with 30. */
+static void shown_of(const struct pair_input *input) {
+    uint32_t answer[4];
+    make(&texts[0][0], input->first, TELEPORT_SCHEMA_LIMIT, 0);
+    make(&schema, input->second, TELEPORT_SCHEMA_LIMIT, 0);
+    call(COUNTEREXAMPLE, &texts[0][0], &schema, answer);
+    require(answer[TELEPORT_CODE] == TELEPORT_NOT_CARRIED, "code 30", input->name);
+    struct timed timed[] = {
+        { .service = COUNTEREXAMPLE, .first = texts[0], .second = &schema, .variants = 1 },
+        { .service = COMPARE, .first = texts[0], .second = &schema, .variants = 1 },
+    };
+    measure(timed, 2);
+    print_speed(input->name, texts[0][0].length + schema.length, timed[0].best);
+    printf(" %10.2f %8u\n", timed[0].best / timed[1].best, answer[TELEPORT_OTHER]);
+    fflush(stdout);
+}
+
+static void shown_all(void) {
+    printf("\n%-15s %8s %10s %9s %10s %8s\n", "Counterexample", "bytes", "MB/s", "ns/byte", "/ Compare", "written");
+    for (size_t i = 0; i < shown_input_count; i++) shown_of(&shown_inputs[i]);
+}
+
 /* One workload, in its largest size. */
 static int only(const char *name, unsigned long count, enum service service) {
     struct timed timed[PER_PAIR];
@@ -309,8 +335,10 @@ int main(int argc, char **argv) {
     read_all();
     compact_all();
     pair_all();
+    shown_all();
     puts("\nratio: the library's speed to that of plain C. / Read, / plain: time to that of reading the document, for\n"
          "Compare both schemas. twice: time to that of half the bytes. writing: time of Compact less that of Read, to that\n"
-         "of Read. !: over 2.2 (twice), over 2.5 (/ Read of a season), over 1.0 (writing of a season).");
+         "of Read. / Compare: time to that of comparing the same schemas. !: over 2.2 (twice), over 2.5 (/ Read of a season),\n"
+         "over 1.0 (writing of a season).");
     return 0;
 }
