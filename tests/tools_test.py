@@ -41,6 +41,7 @@ SHOWN = "30 0 0 18\n20 1 5 27"    # and where the old schema is not met
 OLD = b"what stood here before"
 OUTPUTS = ["out", "there", "nothing/out", "/dev/null", "folder", "x" * 100000]
 LARGEST_FILE = 16       # bytes, where files are kept short: less than is written
+STACK = 2 << 20         # bytes that are enough for every command
 
 
 class Tools(Folder):
@@ -264,15 +265,15 @@ def generated_results(tools):
         yield tools.holds(["compact", "text", "out"], line_of(answer), written)
 
 
-def shown(tools, new, old):
+def shown(tools, new, old, **options):
     """Of two schemas the model's answer, and on 30 its document, and Check's answer under the old."""
     buffer, tables = [0] * LEAST_BUFFER, [[0] * (model.ROW_WORDS * LEAST_BUFFER) for _ in range(2)]
     answer = counterexample(new, old, *tables, buffer)
     words = ["counterexample", tools.write("new", new), tools.write("old", old), "out"]
     if answer[0] != NOT_CARRIED:
-        return tools.holds(words, line_of(answer))
+        return tools.holds(words, line_of(answer), **options)
     document = bytes(buffer[:answer[3]])
-    return tools.holds(words, line_of(answer) + "\n" + line_of(check(document, old, *tables)), {"out": document})
+    return tools.holds(words, line_of(answer) + "\n" + line_of(check(document, old, *tables)), {"out": document}, **options)
 
 
 def counterexample_results(tools):
@@ -285,6 +286,19 @@ def counterexample_results(tools):
             yield shown(tools, *pair)
     for pair in itertools.islice(generate_pairs.schema_pairs(seed), GENERATED):
         yield shown(tools, *pair)
+
+
+def keep_stack_small():
+    resource.setrlimit(resource.RLIMIT_STACK, (STACK, STACK))
+
+
+def stack_results(tools):
+    """The texts for which a call needs the most working room."""
+    options = {"user": {"preexec_fn": keep_stack_small}}
+    text = ones(32767)
+    yield tools.holds(["compact", tools.file(text), "out"], line_of((0, 0, 0, len(text))), {"out": text}, **options)
+    for pair in itertools.islice(generate_failing.KINDS["16,384 bytes"](random.Random(harness.DEFAULT_SEED)), 4):
+        yield shown(tools, *pair, **options)
 
 
 def twice_results(tools):
@@ -301,7 +315,7 @@ def twice_results(tools):
 def results(tools):
     groups = [argument_results, input_results, refusal_results, schema_results, output_results, same_results, rights_results,
               no_output_results, rights_of_output_results, cut_results, length_results, generated_results,
-              counterexample_results, twice_results]
+              counterexample_results, stack_results, twice_results]
     return itertools.chain.from_iterable(group(tools) for group in groups)
 
 

@@ -1,4 +1,4 @@
--- The document and the longest names, computed.
+-- The document, the answer, the buffer and the tables, and the longest names, computed.
 use mathlib.Core.Path.{_≡_, refl}
 use mathlib.Core.List.{[], _∷_}
 use Rattle.model.specs.Text.{text}
@@ -10,6 +10,8 @@ use Rattle.chars.specs.Tokens.{Whole, Quoted}
 use Rattle.reader.specs.Tree.{scalar, array, object, none, more, no-member, member}
 use Rattle.grammar.specs.Utf8.{utf8}
 use Rattle.writer.specs.Spell.{letterOf, spellChar, spell}
+use Rattle.reader.specs.Answer.{answer}
+use Rattle.counterexample.specs.Counterexample.{exampleAnswer, exampleBuffer, tableUnlessShort}
 use Rattle.counterexample.specs.Names.{longestName, longestRead}
 
 -- fields a, and a and b
@@ -29,6 +31,22 @@ documents :
     ≡ text "{\"b\":{\"a\":0.5},\"a\":\"2000-01-01T00:00:00Z\"}")
 unfolding spellChar utf8
 documents = (refl, refl, refl, refl, refl, refl)
+
+-- Compare's 30, a 0 of it and a refusal, with the document `0.5`
+answers :
+    (exampleAnswer (answer 30 0 0 0) (text "0.5") ≡ answer 30 0 0 3)
+    × (exampleAnswer (answer 0 0 0 0) (text "0.5") ≡ answer 0 0 0 0)
+    × (exampleAnswer (answer 8 2 0 3) (text "0.5") ≡ answer 8 2 0 3)
+answers = (refl, refl, refl)
+
+buffers :
+    (exampleBuffer (answer 30 0 0 0) (text "0.5") (text "abcdef") ≡ text "0.5def")
+    × (exampleBuffer (answer 0 0 0 0) (text "0.5") (text "abcdef") ≡ text "abcdef")
+    × (exampleBuffer (answer 8 2 0 3) (text "0.5") (text "abcdef") ≡ text "abcdef")
+buffers = (refl, refl, refl)
+
+tables : (tableUnlessShort 65535 (1 ∷ []) (2 ∷ []) ≡ 1 ∷ []) × (tableUnlessShort 65536 (1 ∷ []) (2 ∷ []) ≡ 2 ∷ [])
+tables = (refl, refl)
 
 -- of values: in bytes as they are spelled; strings do not count
 values :

@@ -17,8 +17,8 @@ const TEXT: usize = 65537;
 // Room for every document: rows number at most the bytes, and have five words each.
 const TABLE: usize = 327680;
 
-// Room for every schema, of 16,384 bytes.
-const SCHEMA_TABLE: usize = 81920;
+// Room for every schema, of 16,384 bytes: two bytes have at most one row.
+const SCHEMA_TABLE: usize = 40960;
 
 // `compact FILE OUT`. What is written is never longer than the text, so that the buffer has room.
 fn compact() {
