@@ -1,4 +1,4 @@
--- For private contracts: what the writers of a document are given, and what they write.
+-- For private contracts: of each writer of a document what it is given, with room for what it writes (`..Ready`), and what it leaves, where it wrote n bytes (`..Written`).
 use Prim.Native.Nat.{ℕ, _≤_}
 use mathlib.Core.Bool.{true, false, cond}
 use mathlib.Core.Option.{Option, none, some}
@@ -23,15 +23,18 @@ abbrev pub failingOf : Def → Option (List ℕ × Def) → Option (List ℕ × 
 failingOf a none y = y
 failingOf a (some f) y = cond (requires a (f .0)) (some f) none
 
+-- so against the definition b, which is the second
 abbrev pub failing : Def → Def → Option (List ℕ × Def)
 failing a (named t) = none
 failing a (array-of q) = none
 failing a (map-of q) = none
 failing a (object-of r o) = cond (ofObjects a) (failingOf a (firstFailing true a r) (firstFailing false a o)) none
 
+-- the row v of that name in the old schema, and 0 where there is none
 pub record FailingName (s₁ s₂ t₁ t₂ : List ℕ) (r₁ r₂ v : ℕ) : Type 0 where
   pub tells : (p : Pairing s₁ s₂ t₁ t₂ r₁ r₂) → Fails s₂ t₂ r₂ v (failing (plain (p .new .definition)) (plain (p .old .definition)))
 
+-- the witness itself
 pub record WitnessReady (s₁ s₂ t₁ t₂ : List ℕ) (r₁ r₂ room : ℕ) : Type 0 where
   pub pair : Pairing s₁ s₂ t₁ t₂ r₁ r₂
   pub fits : length (spell (witness (plain (pair .new .definition)) (plain (pair .old .definition)))) ≤ room
@@ -44,10 +47,11 @@ pub record WitnessTo (s₁ s₂ t₁ t₂ : List ℕ) (r₁ r₂ room : ℕ) (g 
 pub record WitnessWritten (s₁ s₂ t₁ t₂ : List ℕ) (r₁ r₂ n : ℕ) (out out₂ : List ℕ) : Type 0 where
   pub tells : (p : Pairing s₁ s₂ t₁ t₂ r₁ r₂) → Writes (spell (witness (plain (p .new .definition)) (plain (p .old .definition)))) n out out₂
 
--- an object that fails under the name at row r₂ of the old schema
+-- an object of the definition a that fails under the name n, where the old one has q
 abbrev pub failingValue : Def → List ℕ → Def → Value
 failingValue a n q = withMember a n (witness (under a n) q)
 
+-- the same where that name is at row r₂ of the old schema
 pub record MemberReady (s₁ s₂ t₁ t₂ : List ℕ) (r₁ r₂ room : ℕ) : Type 0 where
   pub pair : FieldPairing s₁ s₂ t₁ t₂ r₁ r₂
   pub fits : length (spell (failingValue (plain (pair .new .definition)) (nameOf s₂ (word t₂ r₂ 1) (word t₂ r₂ 2)) (plain (pair .old .definition)))) ≤ room

@@ -1,4 +1,4 @@
--- For private contracts: what the writers of a value are given, and what they write.
+-- For private contracts: of each writer of a value what it is given, with room for what it writes (`..Ready`), and what it leaves, where it wrote n bytes (`..Written`).
 use Prim.Native.Nat.{ℕ, _+_, _≤_}
 use mathlib.Core.Path.{_≡_}
 use mathlib.Core.Bool.{Bool, true, not, _||_}
@@ -25,10 +25,12 @@ Writes w n out out₂ = (n ≡ length w) × (out₂ ≡ over w out)
 
 -- ---- values that stand for a type name; an unknown one counts as JSON
 
+-- neither an array nor an object
 abbrev pub plainBy : Option Named → Value
 plainBy none = null
 plainBy (some t) = plainValue t
 
+-- of no other named type than those that take all of it
 abbrev pub apartBy : Option Named → Value
 apartBy none = null
 apartBy (some t) = apart t
@@ -39,7 +41,7 @@ apartBy (some t) = apart t
 abbrev pub nameBytes : ℕ → List ℕ → List ℕ
 nameBytes lead n = lead ∷ (spellString n ++ (0x3A ∷ []))
 
--- the name whose opening quote is at i, and the one of a row
+-- the name whose opening quote is at i, behind the byte `lead`
 pub record NameReady (s : List ℕ) (i room lead : ℕ) : Type 0 where
   pub end : ℕ
   pub quoted : IsQuoted s i end
@@ -54,6 +56,7 @@ further ms = beforeMembers ms (spellMembers ms)
 
 -- ---- samples of the definition at row r
 
+-- the sample itself
 pub record SampleReady (s t : List ℕ) (r room : ℕ) : Type 0 where
   pub row : DefinedRow s t r
   pub fits : length (spell (sample (plain (row .definition)))) ≤ room
@@ -61,10 +64,11 @@ pub record SampleReady (s t : List ℕ) (r room : ℕ) : Type 0 where
 pub record SampleWritten (s t : List ℕ) (r n : ℕ) (out out₂ : List ℕ) : Type 0 where
   pub tells : (d : DefinedRow s t r) → Writes (spell (sample (plain (d .definition)))) n out out₂
 
--- a field, its name at row r, as a member behind a comma
+-- a field as a member behind a comma
 abbrev pub fieldBytes : List ℕ → Def → List ℕ
 fieldBytes n d = nameBytes 0x2C n ++ spell (sample d)
 
+-- the field whose name is at row r
 pub record FieldReady (s t : List ℕ) (r room : ℕ) : Type 0 where
   pub name : InTable t r
   pub quoted : IsQuoted s (word t r 1) (word t r 2)
@@ -104,13 +108,15 @@ pub record OthersWritten (s t : List ℕ) (r : ℕ) (key : List ℕ) (n : ℕ) (
 
 -- ---- a name that the definition at row r does not name
 
--- how many names begin with p: of the fields at row r, and of the definition there
+-- how many names of the fields at row r begin with p
 pub record CountsFields (s t : List ℕ) (r : ℕ) (p : List ℕ) (n : ℕ) : Type 0 where
   pub tells : (f : FieldsRow s t r) → n ≡ counted p (names (plainFields (f .fields)))
 
+-- how many of the definition there
 pub record CountsNames (s t : List ℕ) (r : ℕ) (p : List ℕ) (n : ℕ) : Type 0 where
   pub tells : (d : DefinedRow s t r) → n ≡ counted p (ownNames (plain (d .definition)))
 
+-- the letters of the name; the definition is an Object
 pub record LettersReady (s t : List ℕ) (r room : ℕ) : Type 0 where
   pub row : DefinedRow s t r
   pub is : GenericRow s t r Object
@@ -119,8 +125,9 @@ pub record LettersReady (s t : List ℕ) (r room : ℕ) : Type 0 where
 pub record LettersWritten (s t : List ℕ) (r n : ℕ) (out out₂ : List ℕ) : Type 0 where
   pub tells : (d : DefinedRow s t r) → Writes (fresh (plain (d .definition))) n out out₂
 
--- ---- a value of the definition at row r that meets only the named types that take all of it
+-- ---- beyond the named types
 
+-- a value of the definition at row r that meets only those that take all of it
 pub record BeyondReady (s t : List ℕ) (r room : ℕ) : Type 0 where
   pub row : DefinedRow s t r
   pub fits : length (spell (beyondNamed (plain (row .definition)))) ≤ room

@@ -1,0 +1,59 @@
+-- What the promise of Compare's sister says of the four numbers and of the buffer's bytes (02, L1).
+use Prim.Native.Nat.{ℕ, _≤_}
+use mathlib.Core.Path.{_≡_, refl, sym, ap, _∙_, subst}
+use mathlib.Core.Bool.{Bool, true, false, cond}
+use mathlib.Core.List.{List}
+use native.Mathlib.Omega.{arith}
+use lib.ListN.{length, take, drop}
+use lib.Dec.{eqb, leb}
+use lib.Seq.{take-at, drop-at}
+use borrow.Author.Tests.{eq-eqb, leb-true, leb-false}
+use Rattle.model.proofs.Basics.{by-test}
+use Rattle.reader.specs.Answer.{answer}
+use Rattle.reader.specs.declared.answers.Answer.{Answer}
+use Rattle.writer.specs.Compact.{over}
+use Rattle.schema.proofs.Compared.{one-answer}
+use Rattle.counterexample.specs.Counterexample.{leastBuffer, Shows, exampleAnswer, exampleBuffer, Exhibits, Promises}
+
+-- two answers that agree but for "other"
+abbrev Alike : Answer → Answer → Type 0
+Alike r q = (r .code ≡ q .code) × (r .text ≡ q .text) × (r .place ≡ q .place)
+
+example-alike : (c : Answer) (d : List ℕ) → Alike (exampleAnswer c d) c
+example-alike c d = go (eqb (c .code) 30)
+  where
+    go : (b : Bool) → Alike (cond b (answer (c .code) (c .text) (c .place) (length d)) c) c
+    go true = (refl, refl, refl)
+    go false = (refl, refl, refl)
+
+module _ {w₁ w₂ : ℕ} {new old buffer : List ℕ} where
+  -- the answer is Compare's but for "other"
+  compared-alike : {r : Answer} {u : List ℕ} (h : Exhibits w₁ w₂ new old r buffer u) → Alike r (h .comparison)
+  compared-alike h = rw (h .answers) (example-alike (h .comparison) (h .document))
+
+  -- the promise leaves one code, one text and one place
+  pub one-outcome : {r q : Answer} {u v : List ℕ} → Promises w₁ w₂ new old r buffer u → Promises w₁ w₂ new old q buffer v → Alike r q
+  one-outcome {r} {q} h k = by-test (leb leastBuffer (length buffer))
+      (λ t.
+      let x = h .long (leb-true leastBuffer (length buffer) t) in
+      let y = k .long (leb-true leastBuffer (length buffer) t) in
+      let e = one-answer (x .compares) (y .compares) in
+      let a = compared-alike x in
+      let b : Alike q (x .comparison) = rw e (compared-alike y) in
+      (a .0 ∙ sym (b .0), a .1 ∙ sym (b .1), a .2 ∙ sym (b .2)))
+      (λ f.
+      let l = leb-false leastBuffer (length buffer) f in
+      rw (h .short l .0, k .short l .0) (refl, refl, refl))
+
+  -- with 30 the first "other" bytes of the buffer are the document, and those behind are as found
+  pub document-shown : leastBuffer ≤ length buffer → {r : Answer} {u : List ℕ} → Promises w₁ w₂ new old r buffer u → r .code ≡ 30
+      → Shows new old (take (r .other) u) × (drop (r .other) u ≡ drop (r .other) buffer)
+  document-shown l {r} {u} h z =
+      let x = h .long l in
+      let d = x .document in
+      let c : x .comparison .code ≡ 30 = sym (compared-alike x .0) ∙ z in
+      let n : r .other ≡ length d = ap (λ (a : Answer). a .other) (x .answers) ∙ rw (eq-eqb (x .comparison .code) 30 c) refl in
+      let w : u ≡ over d buffer = x .writes ∙ rw (eq-eqb (x .comparison .code) 30 c) refl in (
+        subst (Shows new old) (sym (ap (take (r .other)) w ∙ take-at d (drop (length d) buffer) (r .other) (sym n))) (x .shows c),
+        ap (drop (r .other)) w ∙ drop-at d (drop (length d) buffer) (r .other) (sym n) ∙ ap (λ (k : ℕ). drop k buffer) (sym n),
+      )
