@@ -105,7 +105,9 @@ class FailingWriter(PairWriter):
 
     def beside(self, new, old, *taken):
         """More fields in one of two Objects, or in both, the new one's carried to the old one's."""
-        for name in {self.name() for _ in range(self.chance.choice([0, 0, 1, 2, 3]))} - {*taken, *self.own(new), *self.own(old)}:
+        for name in dict.fromkeys(self.name() for _ in range(self.chance.choice([0, 0, 1, 2, 3]))):
+            if name in taken or name in self.own(new) or name in self.own(old):
+                continue
             under = self.definition(1)
             new = self.with_field(new, name, under)
             if self.chance.random() < 0.7 and name in new.required:
