@@ -3,7 +3,6 @@ use Prim.Native.Nat.{ℕ, _≤_}
 use mathlib.Core.Path.{_≡_, refl, sym, ap, _∙_, subst}
 use mathlib.Core.Bool.{Bool, true, false, cond}
 use mathlib.Core.List.{List}
-use native.Mathlib.Omega.{arith}
 use lib.ListN.{length, take, drop}
 use lib.Dec.{eqb, leb}
 use lib.Seq.{take-at, drop-at}
@@ -11,9 +10,10 @@ use borrow.Author.Tests.{eq-eqb, leb-true, leb-false}
 use Rattle.model.proofs.Basics.{by-test}
 use Rattle.reader.specs.Answer.{answer}
 use Rattle.reader.specs.declared.answers.Answer.{Answer}
+use Rattle.reader.proofs.Theorems.{read-short}
 use Rattle.writer.specs.Compact.{over}
 use Rattle.schema.proofs.Compared.{one-answer}
-use Rattle.counterexample.specs.Counterexample.{leastBuffer, Shows, exampleAnswer, exampleBuffer, Exhibits, Promises}
+use Rattle.counterexample.specs.Counterexample.{leastBuffer, Shows, exampleAnswer, Exhibits, Promises}
 
 -- two answers that agree but for "other"
 abbrev Alike : Answer → Answer → Type 0
@@ -45,15 +45,26 @@ module _ {w₁ w₂ : ℕ} {new old buffer : List ℕ} where
       let l = leb-false leastBuffer (length buffer) f in
       rw (h .short l .0, k .short l .0) (refl, refl, refl))
 
-  -- with 30 the first "other" bytes of the buffer are the document, and those behind are as found
-  pub document-shown : leastBuffer ≤ length buffer → {r : Answer} {u : List ℕ} → Promises w₁ w₂ new old r buffer u → r .code ≡ 30
-      → Shows new old (take (r .other) u) × (drop (r .other) u ≡ drop (r .other) buffer)
-  document-shown l {r} {u} h z =
-      let x = h .long l in
-      let d = x .document in
-      let c : x .comparison .code ≡ 30 = sym (compared-alike x .0) ∙ z in
-      let n : r .other ≡ length d = ap (λ (a : Answer). a .other) (x .answers) ∙ rw (eq-eqb (x .comparison .code) 30 c) refl in
-      let w : u ≡ over d buffer = x .writes ∙ rw (eq-eqb (x .comparison .code) 30 c) refl in (
-        subst (Shows new old) (sym (ap (take (r .other)) w ∙ take-at d (drop (length d) buffer) (r .other) (sym n))) (x .shows c),
-        ap (drop (r .other)) w ∙ drop-at d (drop (length d) buffer) (r .other) (sym n) ∙ ap (λ (k : ℕ). drop k buffer) (sym n),
-      )
+  -- with 30
+  module _ (l : leastBuffer ≤ length buffer) {r : Answer} {u : List ℕ} (h : Promises w₁ w₂ new old r buffer u) (z : r .code ≡ 30) where
+    abbrev given : Exhibits w₁ w₂ new old r buffer u
+    given = h .long l
+
+    code-is : given .comparison .code ≡ 30
+    code-is = sym (compared-alike given .0) ∙ z
+
+    length-is : r .other ≡ length (given .document)
+    length-is = ap (λ (a : Answer). a .other) (given .answers) ∙ rw (eq-eqb (given .comparison .code) 30 code-is) refl
+
+    -- "other" is no more than a document has
+    pub document-fits : r .other ≤ leastBuffer
+    document-fits = let s = given .shows code-is in rw length-is (read-short leastBuffer 32 (given .document) (s .tree) (s .end) (s .reads))
+
+    -- the first "other" bytes of the buffer are the document, and those behind are as found
+    pub document-shown : Shows new old (take (r .other) u) × (drop (r .other) u ≡ drop (r .other) buffer)
+    document-shown =
+        let d = given .document in
+        let w : u ≡ over d buffer = given .writes ∙ rw (eq-eqb (given .comparison .code) 30 code-is) refl in (
+          subst (Shows new old) (sym (ap (take (r .other)) w ∙ take-at d (drop (length d) buffer) (r .other) (sym length-is))) (given .shows code-is),
+          ap (drop (r .other)) w ∙ drop-at d (drop (length d) buffer) (r .other) (sym length-is) ∙ ap (λ (k : ℕ). drop k buffer) (sym length-is),
+        )

@@ -15,11 +15,6 @@ pub T→true : (b : Bool) → T b → b ≡ true
 T→true true t = refl
 T→true false t = absurd t
 
--- a conjunction is false where one of its parts is
-pub and-false : (x y : Bool) → x && y ≡ false → (x ≡ false) ⊎ ((x ≡ true) × (y ≡ false))
-and-false true y e = inr (refl, e)
-and-false false y e = inl refl
-
 pub or-true : (x y : Bool) → x || y ≡ true → (x ≡ true) ⊎ (y ≡ true)
 or-true true y e = inl refl
 or-true false y e = inr e
