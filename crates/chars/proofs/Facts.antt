@@ -1,14 +1,10 @@
--- What the crates above cite: tests, strings, digits, hashed names, runs, and values that hold no other.
-pub use Rattle.chars.proofs.bytes.Laws.{both, and-ways, in-text}
-pub use Rattle.chars.proofs.strings.Laws.{ScanAhead, string-ahead, string-close, string-bounds, chars-char, chars-none}
-pub use Rattle.chars.proofs.strings.Meaning.{same-true}
+-- What the crates above cite.
+pub use Rattle.chars.proofs.Runs.{run-end, run-ended, run-from, run-next, run-stop, run-within}
+pub use Rattle.chars.proofs.bytes.Laws.{digit-byte, highest-of, in-text, lowest-least, lowest-of, outside, six-ways}
+pub use Rattle.chars.proofs.characters.Laws.{Scalar}
+pub use Rattle.chars.proofs.hashing.Laws.{hash-small, name-broken, name-hashed}
 pub use Rattle.chars.proofs.plain.Laws.{digit-read}
-pub use Rattle.chars.proofs.hashing.Laws.{hash-small, name-hashed, name-broken}
-pub use Rattle.chars.proofs.space.Laws.{run-end, run-next, run-stop, run-from, run-within, run-ended}
-pub use Rattle.chars.proofs.scalars.Laws.{first-array, first-object, quote-first, array-first, object-first}
-pub use Rattle.chars.proofs.scalars.Laws.{scalar-bounded, scalar-end, scalar-spells, integer-read, quoted-bounds, quoted-characters, characters-text}
--- for the written grammar
-pub use Rattle.chars.proofs.bytes.Laws.{outside, digit-byte, six-ways, lowest-least, lowest-of, highest-of}
-pub use Rattle.chars.proofs.strings.Laws.{char-next, string-char, string-quote, string-stop, chars-step}
-pub use Rattle.chars.proofs.numbers.Laws.{sign-least, whole-some, digits-piece, whole-piece, Minus}
-pub use Rattle.chars.proofs.scalars.Laws.{FirstIs, first-is}
+pub use Rattle.chars.proofs.strings.Laws.{ScanAhead, char-next, chars-char, chars-none, chars-step, string-ahead, string-bounds}
+pub use Rattle.chars.proofs.strings.Laws.{string-char, string-close, string-quote, string-stop}
+pub use Rattle.chars.proofs.strings.Meaning.{Scalars, same-true, scalars}
+pub use Rattle.chars.proofs.strings.Parts.{body-characters}

@@ -1,6 +1,4 @@
-pub mod Span
-pub mod Bounds
-pub mod Pieces
-pub mod Facts
 pub mod Examples
-pub mod TokenExamples
+pub mod Facts
+pub mod Runs
+pub mod Span

@@ -1,3 +1,3 @@
 pub mod Laws
-pub mod Parts
 pub mod Meaning
+pub mod Parts

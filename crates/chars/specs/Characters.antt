@@ -34,8 +34,8 @@ withPair s k (Pair v) = k v
 withPair s k (Bad p) = wrongAt s p
 
 -- the scalar value of a pair of surrogates
-abbrev pub joined : ℕ → ℕ → ℕ
-joined high low = 0x10000 + 0x400 * (high - 0xD800) + (low - 0xDC00)
+abbrev pub pairValue : ℕ → ℕ → ℕ
+pairValue high low = 0x10000 + 0x400 * (high - 0xD800) + (low - 0xDC00)
 
 -- behind the escape of a high surrogate: `\`, `u`, D or d, a digit C to F, and two digits more
 unfoldable pub partnerAt : List ℕ → ℕ → ℕ → Step
@@ -45,7 +45,7 @@ partnerAt s i high =
     (need (eqb (byteAt s (i + 1)) 0x75) (stopAt s (i + 1) 5)
     (need (eqb (digit (byteAt s (i + 2))) 13) (stopAt s (i + 2) 5)
     (need (from-to 12 15 d) (stopAt s (i + 3) 5)
-    (withPair s (λ l. Char (joined high (256 * (0xD0 + d) + l)) (i + 6)) (hexPair s (i + 4))))))
+    (withPair s (λ l. Char (pairValue high (256 * (0xD0 + d) + l)) (i + 6)) (hexPair s (i + 4))))))
 
 -- the escape at i, whose first two digits are h
 unfoldable pub restAt : List ℕ → ℕ → ℕ → Step

@@ -7,7 +7,7 @@ ghost use mathlib.Core.Path.{_≡_};
 ghost use Prim.Native.Nat.{_≤_};
 ghost use lib.ListN.{length};
 ghost use Rattle.chars.specs.Strings.{stringAt};
-ghost use Rattle.chars.specs.Plain.{WideStep};
+ghost use Rattle.chars.specs.Wide.{WideStep};
 
 // The place behind the character of several bytes at a place; the place itself where none stands there.
 fn wide_end(text: &[u8], at: usize) -> usize

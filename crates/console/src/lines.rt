@@ -1,6 +1,6 @@
 // The one line that the program prints.
 use libc::STDOUT_FILENO;
-use reader::Answer;
+use syntax::Answer;
 
 // 01: "Other arguments, or a file that can't be opened, give the line `no file`".
 pub fn no_file() {

@@ -12,21 +12,21 @@ use Rattle.model.specs.Subtype.{subtype}
 use Rattle.model.specs.Witness.{witness}
 use Rattle.model.proofs.Formed.{WellFormed, definition-formed}
 use Rattle.model.proofs.Complete.{witness-works}
-use Rattle.chars.specs.Parse.{parsed}
-use Rattle.reader.specs.Tree.{Node}
-use Rattle.reader.specs.Rows.{size}
-use Rattle.reader.specs.Spelling.{valueOf}
-use Rattle.reader.specs.Answer.{answer, rowsIn}
-use Rattle.reader.proofs.Theorems.{read-json, read-placed}
+use Rattle.tokens.specs.Parse.{parsed}
+use Rattle.syntax.specs.Tree.{Node}
+use Rattle.syntax.specs.Rows.{size}
+use Rattle.syntax.specs.Spelling.{valueOf}
+use Rattle.syntax.specs.Answer.{answer, rowsIn}
+use Rattle.syntax.proofs.Theorems.{read-json, read-placed}
 use Rattle.writer.specs.Spell.{spell}
 use Rattle.writer.proofs.Theorems.{spell-reads}
-use Rattle.schema.specs.Located.{Located, plain}
-use Rattle.schema.specs.Mismatch.{mismatchAt}
-use Rattle.schema.specs.Check.{readDocument, accept, mismatchAnswer, checkAnswer}
-use Rattle.schema.specs.Compare.{Schema}
-use Rattle.schema.proofs.Codes.{mismatch-codes}
-use Rattle.schema.proofs.Defining.{some-defined}
-use Rattle.schema.proofs.Meeting.{meets-nothing, nothing-meets}
+use Rattle.definitions.specs.Definitions.{Located, bare}
+use Rattle.schema.specs.Judging.{mismatchAt}
+use Rattle.schema.specs.Checking.{readDocument, mismatchAnswer, checkAnswer}
+use Rattle.definitions.specs.Accepting.{accept}
+use Rattle.comparison.specs.Comparing.{Schema}
+use Rattle.schema.proofs.Facts.{mismatch-codes, meets-nothing, nothing-meets}
+use Rattle.definitions.proofs.Facts.{some-defined}
 use Rattle.counterexample.specs.Counterexample.{Shows}
 use Rattle.counterexample.proofs.Shown.{shown-size, fits}
 
@@ -46,7 +46,7 @@ formed {s = s} {a} x = definition-formed (valueOf s (x .tree)) (read-json 16384 
 -- ---- what Check answers on a document that is read as the tree n, with room, under a schema with the definition a
 
 module _ (d : List ℕ) (n : Node) (e : ℕ) (q : readDocument d ≡ parsed n e) (w₁ : ℕ) (room : size n ≤ rowsIn w₁) {w₂ : ℕ} {s : List ℕ} {a : Def} (x : Schema w₂ s a) where
-  located : (l : Located) × (checkAnswer w₁ w₂ d s ≡ mismatchAnswer (mismatchAt d l n)) × (plain l ≡ a)
+  located : (l : Located) × (checkAnswer w₁ w₂ d s ≡ mismatchAnswer (mismatchAt d l n)) × (bare l ≡ a)
   unfolding checkAnswer accept
   located =
       let l = some-defined s (x .tree) a (x .defines) in

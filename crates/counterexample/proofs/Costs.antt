@@ -8,8 +8,9 @@ use native.Mathlib.Omega.{arith}
 use lib.ListN.{length}
 use Rattle.model.specs.Text.{text, same}
 use Rattle.model.specs.Value.{Value, null, boolean, number, string, array, object, Members, mnil, mcons}
-use Rattle.model.specs.Definition.{Named, JSON, Schema, Float, Integer, String, Boolean, DateTime, Def, named, array-of, map-of, object-of, Fields, fnil, fcons}
-use Rattle.model.specs.Definition.{disjoint, namedBy, isEmpty, mapped, added, joined, constructed, definitionOf, single, objectOf, part, fieldsOf, fieldsIn}
+use Rattle.model.specs.Definition.{Named, JSON, Schema, Float, Integer, String, Boolean, DateTime, Def, named, array-of, map-of, object-of}
+use Rattle.model.specs.Definition.{Fields, fnil, fcons, disjoint, namedBy, isEmpty, mapped, added, joined, constructed, definitionOf, single}
+use Rattle.model.specs.Definition.{objectOf, part, fieldsOf, fieldsIn}
 use Rattle.model.proofs.Basics.{both, same-eq, same-of, clash}
 use Rattle.grammar.specs.Utf8.{utf8}
 use Rattle.writer.specs.Spell.{spellChar, spellChars, spellString, spell}

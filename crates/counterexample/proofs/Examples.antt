@@ -2,15 +2,14 @@
 use mathlib.Core.Path.{_≡_, refl}
 use mathlib.Core.List.{[], _∷_}
 use Rattle.model.specs.Text.{text}
-use Rattle.model.specs.Value.{null, string, vnil, vcons, mnil, mcons}
-use Rattle.model.specs.Value.{array as list, object as record-of}
+use Rattle.model.specs.Value.{null, string, vnil, vcons, mnil, mcons, array as list, object as record-of}
 use Rattle.model.specs.Definition.{JSON, Float, Integer, String, DateTime, Def, named, array-of, map-of, object-of, Fields, fnil, fcons}
 use Rattle.model.specs.Witness.{witness}
-use Rattle.chars.specs.Tokens.{Whole, Quoted}
-use Rattle.reader.specs.Tree.{scalar, array, object, none, more, no-member, member}
+use Rattle.tokens.specs.Tokens.{Whole, Quoted}
+use Rattle.syntax.specs.Tree.{scalar, array, object, none, more, no-member, member}
 use Rattle.grammar.specs.Utf8.{utf8}
 use Rattle.writer.specs.Spell.{letterOf, spellChar, spell}
-use Rattle.reader.specs.Answer.{answer}
+use Rattle.syntax.specs.Answer.{answer}
 use Rattle.counterexample.specs.Counterexample.{exampleAnswer, exampleBuffer, tableUnlessShort}
 use Rattle.counterexample.specs.Names.{longestName, longestRead}
 

@@ -9,8 +9,9 @@ use Rattle.model.specs.Definition.{JSON, Def, named, array-of, map-of, object-o
 use Rattle.model.specs.Subtype.{ofObjects, fieldOr, under, requires, subtype}
 use Rattle.model.specs.Witness.{sample, witness, witnessFields}
 use Rattle.model.proofs.Basics.{by-test}
-use Rattle.schema.specs.Comparing.{fieldNamed, firstOf, definitionUnder, fieldSubtype, firstFailing}
-use Rattle.schema.proofs.Carries.{orDef, field-or, field-any, field-all}
+use Rattle.comparison.specs.Fields.{fieldNamed, orField, definitionUnder}
+use Rattle.comparison.specs.Carrying.{fieldSubtype, firstFailing}
+use Rattle.comparison.proofs.Facts.{orDef, field-or, field-any, field-all}
 use Rattle.counterexample.specs.Writing.{failingOf, failing, failingValue}
 
 -- the value that fails under the name found, or a sample
@@ -78,6 +79,6 @@ under-found (array-of d) n = refl
 under-found (map-of d) n = refl
 under-found (object-of r o) n = rw (field-or (fieldOr (named JSON) n o) n r, field-or (named JSON) n o) (go (fieldNamed n r) (fieldNamed n o))
   where
-    go : (x y : Option Def) → orDef (orDef (named JSON) y) x ≡ orDef (named JSON) (firstOf x y)
+    go : (x y : Option Def) → orDef (orDef (named JSON) y) x ≡ orDef (named JSON) (orField x y)
     go none y = refl
     go (some d) y = refl

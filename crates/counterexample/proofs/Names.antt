@@ -4,15 +4,15 @@ use mathlib.Core.Path.{_≡_}
 use mathlib.Core.List.{List}
 use native.Mathlib.Omega.{arith}
 use lib.ListN.{length}
-use Rattle.chars.specs.Parse.{parsed}
-use Rattle.chars.specs.Space.{skip}
-use Rattle.chars.specs.Spelling.{IsQuoted}
-use Rattle.chars.specs.Tokens.{Kind, Null, False, True, Whole, Fractional, Quoted}
-use Rattle.chars.proofs.Facts.{quoted-characters}
-use Rattle.reader.specs.Tree.{Node, Nodes, none, more, addNode, Members, no-member, member, addMember}
-use Rattle.reader.specs.Grammar.{nameOf, readText}
-use Rattle.reader.specs.Spelling.{scalarOf, valueOf, valuesOf, membersOf}
-use Rattle.reader.proofs.Induction.{Rule, value-rule, read-begins}
+use Rattle.tokens.specs.Parse.{parsed}
+use Rattle.tokens.specs.Space.{skip}
+use Rattle.tokens.specs.Spelling.{IsQuoted}
+use Rattle.tokens.specs.Tokens.{Kind, Null, False, True, Whole, Fractional, Quoted}
+use Rattle.tokens.proofs.Facts.{quoted-characters}
+use Rattle.syntax.specs.Tree.{Node, Nodes, none, more, addNode, Members, no-member, member, addMember}
+use Rattle.syntax.specs.Grammar.{nameOf, readText}
+use Rattle.syntax.specs.Spelling.{scalarOf, valueOf, valuesOf, membersOf}
+use Rattle.syntax.proofs.Facts.{Rule, value-rule, read-begins}
 use Rattle.writer.specs.Spell.{spellChars}
 use Rattle.writer.proofs.Stretches.{chars-fit}
 use Rattle.counterexample.specs.Names.{longestName, longestOfAll, longestOfMembers, longestRead, longestReadIn, longestReadUnder}

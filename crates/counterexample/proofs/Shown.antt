@@ -6,15 +6,15 @@ use native.Mathlib.Omega.{arith}
 use lib.ListN.{length}
 use Rattle.model.specs.Definition.{Def}
 use Rattle.model.specs.Witness.{witness}
-use Rattle.reader.specs.Tree.{Node}
-use Rattle.reader.specs.Spelling.{valueOf}
-use Rattle.reader.proofs.Theorems.{read-short}
+use Rattle.syntax.specs.Tree.{Node}
+use Rattle.syntax.specs.Spelling.{valueOf}
+use Rattle.syntax.proofs.Theorems.{read-short}
 use Rattle.grammar.proofs.Theorems.{reads-written}
 use Rattle.writer.specs.Spell.{spell}
 use Rattle.writer.specs.Depth.{depthOf}
 use Rattle.writer.proofs.Depths.{text-depth}
 use Rattle.writer.proofs.Theorems.{spelled-short}
-use Rattle.schema.specs.Compare.{Schema}
+use Rattle.comparison.specs.Comparing.{Schema}
 use Rattle.counterexample.specs.Names.{longestName, longestRead}
 use Rattle.counterexample.proofs.Names.{names-short}
 use Rattle.counterexample.proofs.Costs.{sizeOf, bracketsOf, nameOfDef, Costs, def-costs}

@@ -8,11 +8,11 @@ use lib.Dec.{eqb, leb}
 use lib.Seq.{take-at, drop-at}
 use borrow.Author.Tests.{eq-eqb, leb-true, leb-false}
 use Rattle.model.proofs.Basics.{by-test}
-use Rattle.reader.specs.Answer.{answer}
-use Rattle.reader.specs.declared.answers.Answer.{Answer}
-use Rattle.reader.proofs.Theorems.{read-short}
+use Rattle.syntax.specs.Answer.{answer}
+use Rattle.syntax.specs.declared.answers.Answer.{Answer}
+use Rattle.syntax.proofs.Theorems.{read-short}
 use Rattle.writer.specs.Compact.{over}
-use Rattle.schema.proofs.Compared.{one-answer}
+use Rattle.comparison.proofs.Facts.{one-answer}
 use Rattle.counterexample.specs.Counterexample.{leastBuffer, Shows, exampleAnswer, Exhibits, Promises}
 
 -- two answers that agree but for "other"

@@ -7,15 +7,15 @@ use lib.ListN.{length}
 use lib.Dec.{ltb, eqb}
 use Rattle.model.specs.Definition.{Def}
 use Rattle.model.specs.Meeting.{Meets}
-use Rattle.chars.specs.Parse.{parsed}
-use Rattle.reader.specs.Tree.{Node}
-use Rattle.reader.specs.Rows.{size}
-use Rattle.reader.specs.Spelling.{valueOf}
-use Rattle.reader.specs.Answer.{answer, rowsIn}
-use Rattle.reader.specs.declared.answers.Answer.{Answer}
+use Rattle.tokens.specs.Parse.{parsed}
+use Rattle.syntax.specs.Tree.{Node}
+use Rattle.syntax.specs.Rows.{size}
+use Rattle.syntax.specs.Spelling.{valueOf}
+use Rattle.syntax.specs.Answer.{answer, rowsIn}
+use Rattle.syntax.specs.declared.answers.Answer.{Answer}
 use Rattle.writer.specs.Compact.{over}
-use Rattle.schema.specs.Check.{readDocument, checkAnswer}
-use Rattle.schema.specs.Compare.{Schema, Compares}
+use Rattle.schema.specs.Checking.{readDocument, checkAnswer}
+use Rattle.comparison.specs.Comparing.{Schema, Compares}
 
 -- "a lent buffer of at least 65,536 bytes"
 abbrev pub leastBuffer : ℕ

@@ -1,9 +1,9 @@
 -- For "L1's document must keep to the limit" (02, L7): the longest name of a value as it is spelled, and of a text as it stands there, in bytes between its quotes.
 use Prim.Native.Nat.{ℕ, _-_, max}
 use lib.ListN.{length}
-use Rattle.model.specs.Value.{Value, null, boolean, number, string, Values, vnil, vcons, mnil, mcons}
-use Rattle.model.specs.Value.{array as list, object as record-of, Members as ValueMembers}
-use Rattle.reader.specs.Tree.{Node, scalar, array, object, Nodes, none, more, Members, no-member, member}
+use Rattle.model.specs.Value.{Value, null, boolean, number, string, Values, vnil, vcons, mnil, mcons, array as list, object as record-of}
+use Rattle.model.specs.Value.{Members as ValueMembers}
+use Rattle.syntax.specs.Tree.{Node, scalar, array, object, Nodes, none, more, Members, no-member, member}
 use Rattle.writer.specs.Spell.{spellChars}
 
 -- of a value

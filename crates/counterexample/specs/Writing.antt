@@ -8,12 +8,14 @@ use Rattle.model.specs.Value.{Value}
 use Rattle.model.specs.Definition.{Def, named, array-of, map-of, object-of}
 use Rattle.model.specs.Subtype.{ofObjects, requires, under}
 use Rattle.model.specs.Witness.{withMember, witness}
-use Rattle.reader.specs.Grammar.{nameOf}
-use Rattle.reader.specs.Holding.{word}
+use Rattle.syntax.specs.Grammar.{nameOf}
+use Rattle.syntax.specs.Holding.{word}
 use Rattle.writer.specs.Spell.{spell}
-use Rattle.schema.specs.Located.{plain}
-use Rattle.schema.specs.Comparing.{GenericRow, FindsUnder, Pairing, FieldPairing, firstFailing, Fails}
-use Rattle.schema.specs.declared.names.Generic.{Generic}
+use Rattle.definitions.specs.Definitions.{bare}
+use Rattle.definitions.specs.Shapes.{GenericRow}
+use Rattle.comparison.specs.Fields.{FindsUnder}
+use Rattle.comparison.specs.Carrying.{Pairing, FieldPairing, firstFailing, Fails}
+use Rattle.definitions.specs.declared.types.Generic.{Generic}
 use Rattle.samples.specs.Writing.{Writes}
 
 -- ---- the witness of a new definition at row r₁ and an old one at row r₂
@@ -32,12 +34,12 @@ failing a (object-of r o) = cond (ofObjects a) (failingOf a (firstFailing true a
 
 -- the row v of that name in the old schema, and 0 where there is none
 pub record FailingName (s₁ s₂ t₁ t₂ : List ℕ) (r₁ r₂ v : ℕ) : Type 0 where
-  pub tells : (p : Pairing s₁ s₂ t₁ t₂ r₁ r₂) → Fails s₂ t₂ r₂ v (failing (plain (p .new .definition)) (plain (p .old .definition)))
+  pub tells : (p : Pairing s₁ s₂ t₁ t₂ r₁ r₂) → Fails s₂ t₂ r₂ v (failing (bare (p .new .definition)) (bare (p .old .definition)))
 
 -- the witness itself
 pub record WitnessReady (s₁ s₂ t₁ t₂ : List ℕ) (r₁ r₂ room : ℕ) : Type 0 where
   pub pair : Pairing s₁ s₂ t₁ t₂ r₁ r₂
-  pub fits : length (spell (witness (plain (pair .new .definition)) (plain (pair .old .definition)))) ≤ room
+  pub fits : length (spell (witness (bare (pair .new .definition)) (bare (pair .old .definition)))) ≤ room
 
 -- the old one is of the generic type g
 pub record WitnessTo (s₁ s₂ t₁ t₂ : List ℕ) (r₁ r₂ room : ℕ) (g : Generic) : Type 0 where
@@ -45,7 +47,7 @@ pub record WitnessTo (s₁ s₂ t₁ t₂ : List ℕ) (r₁ r₂ room : ℕ) (g 
   pub is : GenericRow s₂ t₂ r₂ g
 
 pub record WitnessWritten (s₁ s₂ t₁ t₂ : List ℕ) (r₁ r₂ n : ℕ) (out out₂ : List ℕ) : Type 0 where
-  pub tells : (p : Pairing s₁ s₂ t₁ t₂ r₁ r₂) → Writes (spell (witness (plain (p .new .definition)) (plain (p .old .definition)))) n out out₂
+  pub tells : (p : Pairing s₁ s₂ t₁ t₂ r₁ r₂) → Writes (spell (witness (bare (p .new .definition)) (bare (p .old .definition)))) n out out₂
 
 -- an object of the definition a that fails under the name n, where the old one has q
 abbrev pub failingValue : Def → List ℕ → Def → Value
@@ -54,18 +56,18 @@ failingValue a n q = withMember a n (witness (under a n) q)
 -- the same where that name is at row r₂ of the old schema
 pub record MemberReady (s₁ s₂ t₁ t₂ : List ℕ) (r₁ r₂ room : ℕ) : Type 0 where
   pub pair : FieldPairing s₁ s₂ t₁ t₂ r₁ r₂
-  pub fits : length (spell (failingValue (plain (pair .new .definition)) (nameOf s₂ (word t₂ r₂ 1) (word t₂ r₂ 2)) (plain (pair .old .definition)))) ≤ room
+  pub fits : length (spell (failingValue (bare (pair .new .definition)) (nameOf s₂ (word t₂ r₂ 1) (word t₂ r₂ 2)) (bare (pair .old .definition)))) ≤ room
 
 pub record MemberWritten (s₁ s₂ t₁ t₂ : List ℕ) (r₁ r₂ n : ℕ) (out out₂ : List ℕ) : Type 0 where
   pub tells : (p : FieldPairing s₁ s₂ t₁ t₂ r₁ r₂)
-      → Writes (spell (failingValue (plain (p .new .definition)) (nameOf s₂ (word t₂ r₂ 1) (word t₂ r₂ 2)) (plain (p .old .definition)))) n out out₂
+      → Writes (spell (failingValue (bare (p .new .definition)) (nameOf s₂ (word t₂ r₂ 1) (word t₂ r₂ 2)) (bare (p .old .definition)))) n out out₂
 
 -- the value under that name, for which row v of the new schema was found
 pub record UnderReady (s₁ s₂ t₁ t₂ : List ℕ) (r₁ v r₂ room : ℕ) : Type 0 where
   pub pair : FieldPairing s₁ s₂ t₁ t₂ r₁ r₂
   pub finds : FindsUnder s₁ t₁ r₁ (nameOf s₂ (word t₂ r₂ 1) (word t₂ r₂ 2)) false v
-  pub fits : length (spell (witness (under (plain (pair .new .definition)) (nameOf s₂ (word t₂ r₂ 1) (word t₂ r₂ 2))) (plain (pair .old .definition)))) ≤ room
+  pub fits : length (spell (witness (under (bare (pair .new .definition)) (nameOf s₂ (word t₂ r₂ 1) (word t₂ r₂ 2))) (bare (pair .old .definition)))) ≤ room
 
 pub record UnderWritten (s₁ s₂ t₁ t₂ : List ℕ) (r₁ r₂ n : ℕ) (out out₂ : List ℕ) : Type 0 where
   pub tells : (p : FieldPairing s₁ s₂ t₁ t₂ r₁ r₂)
-      → Writes (spell (witness (under (plain (p .new .definition)) (nameOf s₂ (word t₂ r₂ 1) (word t₂ r₂ 2))) (plain (p .old .definition)))) n out out₂
+      → Writes (spell (witness (under (bare (p .new .definition)) (nameOf s₂ (word t₂ r₂ 1) (word t₂ r₂ 2))) (bare (p .old .definition)))) n out out₂

@@ -1,12 +1,12 @@
 // Compare's sister (02, L1): on 30 it writes a document that meets the new schema and fails the old.
 use crate::witnesses::write_witness;
-use reader::Answer;
-use schema::compare;
+use comparison::compare;
+use syntax::Answer;
 ghost use mathlib.Core.Path.{_≡_};
 ghost use lib.ListN.{length};
-ghost use Rattle.reader.specs.Answer.{tableOf};
-ghost use Rattle.schema.specs.Check.{readSchema};
-ghost use Rattle.schema.specs.Compare.{compareTable};
+ghost use Rattle.syntax.specs.Answer.{tableOf};
+ghost use Rattle.definitions.specs.Accepting.{readSchema};
+ghost use Rattle.comparison.specs.Comparing.{compareTable};
 ghost use Rattle.counterexample.specs.Counterexample.{Promises, tableUnlessShort};
 
 // Compares a new schema with an old one, and on 30 writes the document.

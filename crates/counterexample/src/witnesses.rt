@@ -1,19 +1,19 @@
 // A value that meets the new definition and fails the old one, where the new is not carried to the old.
+use comparison::failing_field;
+use comparison::find_under;
+use definitions::Generic;
+use definitions::generic_at;
+use definitions::of_objects;
+use rows::find;
+use rows::row_at;
 use samples::write_beyond;
 use samples::write_bytes;
 use samples::write_name;
 use samples::write_others;
 use samples::write_sample;
-use schema::Generic;
-use schema::failing_field;
-use schema::find;
-use schema::find_under;
-use schema::generic_at;
-use schema::of_objects;
-use schema::row_at;
 ghost use lib.ListN.{length};
-ghost use Rattle.schema.specs.Comparing.{PairingTo};
-ghost use Rattle.schema.specs.declared.names.Generic.the-variants.{Array, Map, Object};
+ghost use Rattle.comparison.specs.Carrying.{PairingTo};
+ghost use Rattle.definitions.specs.declared.types.Generic.the-variants.{Array, Map, Object};
 ghost use Rattle.counterexample.specs.Writing.{FailingName, WitnessReady, WitnessTo, WitnessWritten};
 ghost use Rattle.counterexample.specs.Writing.{MemberReady, MemberWritten, UnderReady, UnderWritten};
 

@@ -8,15 +8,14 @@ use native.Mathlib.Omega.{arith}
 use lib.Dec.{eqb, leb, ltb}
 use borrow.Author.Tests.{eqb-true, leb-true, ltb-true, lt-ltb}
 use Rattle.model.specs.Text.{text, all}
-use Rattle.model.specs.Value.{Value, null, boolean, number, string, array, object, vnil, Members, mnil}
-use Rattle.model.specs.Value.{isDigit, IsNumber}
+use Rattle.model.specs.Value.{Value, null, boolean, number, string, array, object, vnil, Members, mnil, isDigit, IsNumber}
 use Rattle.model.proofs.Basics.{and-ways, or-true}
 use Rattle.grammar.specs.Utf8.{IsUtf8, utf8-1, utf8-2, utf8-3, utf8-4}
-use Rattle.grammar.specs.Written.{Language, IsSpace, IsHexDigit, decimal, upper, lower, IsHex, hex, IsChar, unescaped, short, unicode, surrogates}
-use Rattle.grammar.specs.Written.{IsShort, quotation-mark, reverse-solidus, solidus, backspace, form-feed, line-feed, carriage-return, tab}
-use Rattle.grammar.specs.Written.{IsChars, no-char, char, IsString, IsLeaf}
-use Rattle.grammar.proofs.Trimmed.{TrimmedSeries, first-item, next-item, TrimmedBracketed, no-items, some-items}
-use Rattle.grammar.proofs.Trimmed.{TrimmedElement, TrimmedMember, TrimmedValue, TrimmedText}
+use Rattle.grammar.specs.Written.{Language, IsSpace, IsHexDigit, decimal, upper, lower, IsHex, hex, IsChar, unescaped, short, unicode}
+use Rattle.grammar.specs.Written.{surrogates, IsShort, quotation-mark, reverse-solidus, solidus, backspace, form-feed, line-feed}
+use Rattle.grammar.specs.Written.{carriage-return, tab, IsChars, no-char, char, IsString, IsLeaf}
+use Rattle.grammar.proofs.Trimmed.{TrimmedSeries, first-item, next-item, TrimmedBracketed, no-items, some-items, TrimmedElement}
+use Rattle.grammar.proofs.Trimmed.{TrimmedMember, TrimmedValue, TrimmedText}
 use Rattle.grammar.proofs.NumberBytes.{number-all}
 use Rattle.grammar.proofs.Utf8.{three-bits, four-bits}
 

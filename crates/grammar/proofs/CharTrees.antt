@@ -8,11 +8,11 @@ use lib.ListN.{length}
 use lib.Dec.{ltb, leb, eqb}
 use borrow.Author.Tests.{ltb-true, leb-true, eqb-true, lt-ltb, le-leb, lt-leb, eq-eqb, ne-eqb}
 use Rattle.chars.specs.Bytes.{byteAt, from-to, codeOf, digit, named, lowest, highest, sixBits}
-use Rattle.chars.specs.Characters.{stopAt, wrongAt, hexPair, withPair, joined, partnerAt, restAt, unicodeAt, escapeAt, twoAt, threeAt, fourAt, charFrom, charAt}
+use Rattle.chars.specs.Characters.{stopAt, wrongAt, hexPair, withPair, pairValue, partnerAt, restAt, unicodeAt, escapeAt, twoAt, threeAt, fourAt, charFrom, charAt}
 use Rattle.chars.specs.declared.characters.Step.{Step}
 use Rattle.chars.specs.declared.characters.Step.the-variants.{Quote, Refused}
-use Rattle.chars.proofs.Facts.{both, and-ways, in-text, digit-byte, lowest-least}
-use Rattle.model.proofs.Basics.{by-test}
+use Rattle.model.proofs.Basics.{both, and-ways, by-test}
+use Rattle.chars.proofs.Facts.{in-text, digit-byte, lowest-least}
 use Rattle.grammar.specs.Utf8.{In}
 use Rattle.grammar.proofs.Trees.{Tree, give, next, walk, Good}
 
@@ -44,7 +44,7 @@ any v = true
 
 -- behind the digits of a low surrogate, of which the second is x and the last two l
 abbrev pub joinedTree : ℕ → ℕ → ℕ → Tree
-joinedTree high x l = give (joined high (256 * (0xD0 + x) + l))
+joinedTree high x l = give (pairValue high (256 * (0xD0 + x) + l))
 
 -- behind the escape of a high surrogate
 abbrev pub partnerTree : ℕ → Tree

@@ -8,16 +8,18 @@ use native.Mathlib.Omega.{arith}
 use lib.Dec.{ltb, leb, eqb}
 use borrow.Author.Tests.{ltb-true, ltb-false, leb-true, eqb-true, eqb-false, lt-ltb, le-ltb, le-leb, eq-eqb, ne-eqb}
 use Rattle.chars.specs.Bytes.{from-to, digit, named, lowest, highest, sixBits}
-use Rattle.chars.specs.Characters.{joined}
-use Rattle.chars.proofs.Facts.{both, six-ways, lowest-least, lowest-of, highest-of, outside}
-use Rattle.model.proofs.Basics.{clash, by-test, not-true}
+use Rattle.chars.specs.Characters.{pairValue}
+use Rattle.model.proofs.Basics.{both, clash, by-test, not-true}
+use Rattle.chars.proofs.Facts.{six-ways, lowest-least, lowest-of, highest-of, outside}
 use Rattle.grammar.specs.Utf8.{In, IsTail, StartsThree, e0, e1-ec, ed, ee-ef, StartsFour, f0, f1-f3, f4, IsUtf8, utf8-1, utf8-2, utf8-3, utf8-4}
-use Rattle.grammar.specs.Written.{IsUnescaped, IsHexDigit, decimal, upper, lower, IsHex, hex as hex-digits, IsChar, unescaped, short, unicode, surrogates}
-use Rattle.grammar.specs.Written.{IsShort, quotation-mark, reverse-solidus, solidus, backspace, form-feed, line-feed, carriage-return, tab}
+use Rattle.grammar.specs.Written.{IsUnescaped, IsHexDigit, decimal, upper, lower, IsHex, hex as hex-digits, IsChar, unescaped, short}
+use Rattle.grammar.specs.Written.{unicode, surrogates, IsShort, quotation-mark, reverse-solidus, solidus, backspace, form-feed}
+use Rattle.grammar.specs.Written.{line-feed, carriage-return, tab}
 use Rattle.grammar.proofs.Utf8.{utf8-range, utf8-wide, three-bits, four-bits, starts-three, starts-four}
 use Rattle.grammar.proofs.Trees.{Tree, give, Lang}
-use Rattle.grammar.proofs.CharTrees.{ranged, in-range, not-in, hex, pairTree, any, joinedTree, partnerTree, digitsTree, restTree, noLow, unicodeTree, escapeTree}
-use Rattle.grammar.proofs.CharTrees.{tailTree, two, three, four, twoTree, threeTree, fourTree, wideTree, charTree}
+use Rattle.grammar.proofs.CharTrees.{ranged, in-range, not-in, hex, pairTree, any, joinedTree, partnerTree, digitsTree, restTree, noLow}
+use Rattle.grammar.proofs.CharTrees.{unicodeTree, escapeTree, tailTree, two, three, four, twoTree, threeTree, fourTree, wideTree}
+use Rattle.grammar.proofs.CharTrees.{charTree}
 
 -- where the tree gives a character
 give-ways : (P : List ℕ → ℕ → Type 0) (u : ℕ) (w : List ℕ) (v : ℕ) → Lang (give u) w v → P [] u → P w v
@@ -199,7 +201,7 @@ module _ (good : ℕ → Bool) (f : ℕ → Tree) where
 -- the escape of a low surrogate, behind that of a high one
 module _ (high : ℕ) where
   low-ways : (P : List ℕ → Type 0) (w : List ℕ) (v : ℕ) → Lang (partnerTree high) w v
-      → ((x : List ℕ) (l : ℕ) → IsHex x l → In 0xDC00 0xDFFF l → v ≡ joined high l → P (0x5C ∷ 0x75 ∷ x)) → P w
+      → ((x : List ℕ) (l : ℕ) → IsHex x l → In 0xDC00 0xDFFF l → v ≡ pairValue high l → P (0x5C ∷ 0x75 ∷ x)) → P w
   low-ways P [] v h k = absurd h
   low-ways P (a ∷ []) v h k = absurd (h .1)
   low-ways P (a ∷ b ∷ []) v h k = absurd (h .1 .1)
@@ -214,7 +216,7 @@ module _ (high : ℕ) where
       (λ p q x y r m n _ h. let s = small c-digit d-digit m n in
       give-ways (λ r u. v ≡ u → P (0x5C ∷ 0x75 ∷ c ∷ d ∷ p ∷ q ∷ r)) _ r v h (λ e. k _ _ (hex-digits c-digit d-digit m n) (omega arith) (omega arith)) refl))
 
-  low-lang : {x : List ℕ} {l : ℕ} (v : ℕ) → IsHex x l → In 0xDC00 0xDFFF l → v ≡ joined high l → Lang (partnerTree high) (0x5C ∷ 0x75 ∷ x) v
+  low-lang : {x : List ℕ} {l : ℕ} (v : ℕ) → IsHex x l → In 0xDC00 0xDFFF l → v ≡ pairValue high l → Lang (partnerTree high) (0x5C ∷ 0x75 ∷ x) v
   low-lang v (hex-digits {a} {b} k l m n) h e =
       let s = small k l m n in
       let x = digit-of k .0 in
@@ -264,7 +266,7 @@ module _ {a b c d x y p q : ℕ} (k : IsHexDigit a x) (l : IsHexDigit b y) (m : 
       digits-lang [] v (λ i. f (omega arith)) (rw (not-in 0xD8 0xDB (16 * x + y) (λ i. f (omega arith))) (omega arith))
 
   high-lang : {r : List ℕ} {o : ℕ} (v : ℕ) → In 0xD800 0xDBFF (value x y p q) → IsHex r o → In 0xDC00 0xDFFF o
-      → v ≡ joined (value x y p q) o → Lang unicodeTree (a ∷ b ∷ c ∷ d ∷ 0x5C ∷ 0x75 ∷ r) v
+      → v ≡ pairValue (value x y p q) o → Lang unicodeTree (a ∷ b ∷ c ∷ d ∷ 0x5C ∷ 0x75 ∷ r) v
   high-lang {r} v i g j e =
       let s = small k l m n in
       digits-lang (0x5C ∷ 0x75 ∷ r) v (omega arith) (rw (in-range 0xD8 0xDB (16 * x + y) (omega arith)) (low-lang _ v g j (omega arith)))

@@ -8,8 +8,9 @@ use mathlib.Core.List.{[], _∷_}
 use Rattle.model.specs.Text.{text}
 use Rattle.model.specs.Value.{Value, null, boolean, array, object, vnil, vcons, mnil, mcons}
 use Rattle.grammar.specs.Utf8.{StartsThree, e0, e1-ec, ed, ee-ef, StartsFour, f0, f1-f3, f4, IsUtf8, utf8-1, utf8-2, utf8-3, utf8-4, utf8}
-use Rattle.grammar.specs.Written.{structural, reverse-solidus, decimal, upper, lower, hex, IsChar, unescaped, short, unicode, surrogates, no-char}
-use Rattle.grammar.specs.Written.{one, more, empty, series, is-array, is-member, Differ, is-object, IsValue, IsJsonText, is-text}
+use Rattle.grammar.specs.Written.{structural, reverse-solidus, decimal, upper, lower, hex, IsChar, unescaped, short, unicode, surrogates}
+use Rattle.grammar.specs.Written.{no-char, one, more, empty, series, is-array, is-member, Differ, is-object, IsValue, IsJsonText}
+use Rattle.grammar.specs.Written.{is-text}
 
 -- ---- UTF-8 (RFC 3629)
 

@@ -11,11 +11,11 @@ use lib.Dec.{leb}
 use borrow.Author.Tests.{leb-true}
 use Rattle.model.specs.Text.{text}
 use Rattle.model.specs.Value.{Value, boolean, number, string, array, object, Values, vnil, vcons, Members, mnil, mcons}
-use Rattle.chars.specs.Parse.{Parse, refused, parsed}
-use Rattle.reader.specs.Tree.{Node}
-use Rattle.reader.specs.Grammar.{readText}
-use Rattle.reader.specs.Spelling.{valueOf}
-use Rattle.reader.proofs.Examples.{within}
+use Rattle.tokens.specs.Parse.{Parse, refused, parsed}
+use Rattle.syntax.specs.Tree.{Node}
+use Rattle.syntax.specs.Grammar.{readText}
+use Rattle.syntax.specs.Spelling.{valueOf}
+use Rattle.syntax.proofs.Examples.{within}
 use Rattle.grammar.specs.Written.{IsJsonText, Begins}
 use Rattle.grammar.proofs.Theorems.{reads-written, written-reads}
 use Rattle.grammar.proofs.Places.{place-begins, place-ends}

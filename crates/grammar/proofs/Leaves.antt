@@ -11,20 +11,22 @@ use borrow.Author.Tests.{ltb-true, eqb-true, eq-eqb, ne-eqb}
 use Rattle.model.specs.Text.{text, all}
 use Rattle.model.specs.Value.{Value, null, boolean, number, string, array, object, isDigit}
 use Rattle.chars.specs.Bytes.{byteAt}
-use Rattle.chars.specs.Parse.{Parse, refused, parsed, then, unexpected}
-use Rattle.chars.specs.Space.{isSpace}
+use Rattle.tokens.specs.Parse.{Parse, refused, parsed, then, unexpected}
+use Rattle.tokens.specs.Space.{isSpace}
 use Rattle.chars.specs.Strings.{stringAt, part}
-use Rattle.chars.specs.Tokens.{Kind, Null, False, True, Whole, Fractional, Quoted}
-use Rattle.chars.specs.Scalars.{firstOf, wordAt, quoted, scalarBy, scalarAt}
-use Rattle.chars.specs.Spelling.{Spells}
+use Rattle.tokens.specs.Tokens.{Kind, Null, False, True, Whole, Fractional, Quoted}
+use Rattle.tokens.specs.Scalars.{firstOf, wordAt, quoted, scalarBy, scalarAt}
+use Rattle.tokens.specs.Spelling.{Spells}
 use Rattle.chars.specs.declared.strings.Scan.{Scan}
 use Rattle.chars.specs.declared.strings.Scan.the-variants.{Ends, Stopped}
-use Rattle.chars.specs.declared.scalars.First.{First}
-use Rattle.chars.specs.declared.scalars.First.the-variants.{Array, Object, Quote, Number, LetterN, LetterF, LetterT, Other}
-use Rattle.chars.proofs.Facts.{both, and-ways, in-text, scalar-bounded, scalar-spells, quote-first, first-is, FirstIs}
-use Rattle.reader.specs.Tree.{Node, scalar}
-use Rattle.reader.specs.Grammar.{leafAt}
-use Rattle.reader.specs.Spelling.{scalarOf, valueOf}
+use Rattle.tokens.specs.declared.scalars.First.{First}
+use Rattle.tokens.specs.declared.scalars.First.the-variants.{Array, Object, Quote, Number, LetterN, LetterF, LetterT, Other}
+use Rattle.model.proofs.Basics.{both, and-ways}
+use Rattle.chars.proofs.Facts.{in-text}
+use Rattle.tokens.proofs.Facts.{scalar-bounded, scalar-spells, quote-first, first-is, FirstIs}
+use Rattle.syntax.specs.Tree.{Node, scalar}
+use Rattle.syntax.specs.Grammar.{leafAt}
+use Rattle.syntax.specs.Spelling.{scalarOf, valueOf}
 use Rattle.grammar.specs.Written.{Language, IsLeaf}
 use Rattle.grammar.proofs.Pieces.{At, at-part, between-none, between-one, Sound, Refusals, begun-none, begun-in, refusals-in}
 use Rattle.grammar.proofs.Pieces.{unexpected-refusals, Follow, Opening}

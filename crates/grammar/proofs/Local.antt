@@ -9,25 +9,23 @@ use lib.Dec.{eqb, ltb}
 use borrow.Author.Tests.{lt-ltb, eqb-true, eqb-false}
 use Rattle.model.specs.Text.{text}
 use Rattle.model.specs.Value.{isDigit}
-use Rattle.model.proofs.Basics.{by-test}
+use Rattle.model.proofs.Basics.{by-test, both}
 use Rattle.chars.specs.Bytes.{byteAt}
-use Rattle.chars.specs.Parse.{Parse, refused, parsed, then, unexpected}
-use Rattle.chars.specs.Space.{run}
+use Rattle.tokens.specs.Parse.{Parse, refused, parsed, then, unexpected}
+use Rattle.chars.specs.Runs.{run}
 use Rattle.chars.specs.Characters.{charAt, stopAt}
 use Rattle.chars.specs.Strings.{stringAt, part}
-use Rattle.chars.specs.Tokens.{Kind, Null, False, True, Whole, Fractional}
-use Rattle.chars.specs.Numbers.{digitsEnd, wholeEnd, signEnd, powerAt, exponentAt, fractionAt, unsignedAt, numberAt}
-use Rattle.chars.specs.Scalars.{firstOf, wordAt, quoted, scalarBy, scalarAt}
+use Rattle.tokens.specs.Tokens.{Kind, Null, False, True, Whole, Fractional}
+use Rattle.tokens.specs.Numbers.{digitsEnd, wholeEnd, signEnd, powerAt, exponentAt, fractionAt, unsignedAt, numberAt}
+use Rattle.tokens.specs.Scalars.{firstOf, wordAt, quoted, scalarBy, scalarAt}
 use Rattle.chars.specs.declared.characters.Step.{Step}
 use Rattle.chars.specs.declared.characters.Step.the-variants.{Char, Quote, Refused}
 use Rattle.chars.specs.declared.strings.Scan.{Scan}
 use Rattle.chars.specs.declared.strings.Scan.the-variants.{Ends, Stopped}
-use Rattle.chars.specs.declared.scalars.First.{First}
-use Rattle.chars.specs.declared.scalars.First.the-variants.{Array, Object, Number, LetterN, LetterF, LetterT, Other}
-use Rattle.chars.specs.declared.scalars.First.the-variants.{Quote as FirstQuote}
-use Rattle.chars.proofs.Facts.{both, in-text, run-next, run-stop, run-from, sign-least, first-is, char-next, string-char, string-quote, FirstIs}
-use Rattle.chars.proofs.Facts.{string-stop}
-use Rattle.chars.proofs.Pieces.{part-none, part-cons}
+use Rattle.tokens.specs.declared.scalars.First.{First}
+use Rattle.tokens.specs.declared.scalars.First.the-variants.{Array, Object, Number, LetterN, LetterF, LetterT, Other, Quote as FirstQuote}
+use Rattle.chars.proofs.Facts.{in-text, run-next, run-stop, run-from, char-next, string-char, string-quote, string-stop}
+use Rattle.tokens.proofs.Facts.{sign-least, first-is, FirstIs, part-none, part-cons}
 use Rattle.grammar.proofs.Trees.{Tree, give, next, walk, Good, Stepped, walk-sound, passes-in, stop-ways}
 use Rattle.grammar.proofs.CharTrees.{charTree, char-quote, char-walk, char-good}
 use Rattle.grammar.proofs.Strings.{Scanned, string-sound}

@@ -8,22 +8,22 @@ use lib.ListN.{length}
 use lib.Dec.{eqb, ltb}
 use borrow.Author.Tests.{ltb-false, lt-ltb, eqb-true, eqb-false}
 use Rattle.model.specs.Text.{same}
-use Rattle.model.proofs.Basics.{by-test}
+use Rattle.model.proofs.Basics.{by-test, both}
 use Rattle.chars.specs.Bytes.{byteAt}
-use Rattle.chars.specs.Parse.{Parse, refused, parsed, then}
-use Rattle.chars.specs.Space.{isSpace, skip}
+use Rattle.tokens.specs.Parse.{Parse, refused, parsed, then}
+use Rattle.tokens.specs.Space.{isSpace, skip}
 use Rattle.chars.specs.Strings.{stringAt, characters}
-use Rattle.chars.specs.Scalars.{firstOf, scalarAt}
+use Rattle.tokens.specs.Scalars.{firstOf, scalarAt}
 use Rattle.chars.specs.declared.strings.Scan.{Scan}
 use Rattle.chars.specs.declared.strings.Scan.the-variants.{Ends, Stopped}
-use Rattle.chars.specs.declared.scalars.First.{First}
-use Rattle.chars.specs.declared.scalars.First.the-variants.{Array, Object, Quote, Number, LetterN, LetterF, LetterT, Other}
-use Rattle.chars.proofs.Facts.{both, in-text, run-from, run-within, string-close, first-array, first-object}
-use Rattle.reader.specs.Tree.{Node, Nodes, none, Members, no-member, member, addMember}
-use Rattle.reader.specs.Grammar.{itemsAt, listAt, elementAt, arrayAt, nameOf, repeated, memberAt, objectAt, leafAt, valueBy, valueAt, alone, wholeAt}
-use Rattle.reader.proofs.Items.{Reads, item-takes, items-refused, items-next, items-close, items-bad, list-empty, list-items}
-use Rattle.reader.proofs.Values.{name-stopped, name-again, name-new, member-bare, member-value, member-parsed, name-parsed, element-reads}
-use Rattle.reader.proofs.Values.{member-reads}
+use Rattle.tokens.specs.declared.scalars.First.{First}
+use Rattle.tokens.specs.declared.scalars.First.the-variants.{Array, Object, Quote, Number, LetterN, LetterF, LetterT, Other}
+use Rattle.chars.proofs.Facts.{in-text, run-from, run-within, string-close}
+use Rattle.tokens.proofs.Facts.{first-array, first-object}
+use Rattle.syntax.specs.Tree.{Node, Nodes, none, Members, no-member, member, addMember}
+use Rattle.syntax.specs.Grammar.{itemsAt, listAt, elementAt, arrayAt, nameOf, repeated, memberAt, objectAt, leafAt, valueBy, valueAt, alone, wholeAt}
+use Rattle.syntax.proofs.Facts.{Reads, item-takes, items-refused, items-next, items-close, items-bad, list-empty, list-items, name-stopped}
+use Rattle.syntax.proofs.Facts.{name-again, name-new, member-bare, member-value, member-parsed, name-parsed, element-reads, member-reads}
 use Rattle.grammar.proofs.Strings.{Scanned, string-sound}
 use Rattle.grammar.proofs.Members.{no-quote}
 use Rattle.grammar.proofs.Local.{Agree, place, Steady, Local, LocalIf, then-local, unexpected-local, part-steady, runs, string-steady}

@@ -12,17 +12,16 @@ use Rattle.model.specs.Text.{text, same}
 use Rattle.model.specs.Value.{Value, null, vcons, Members, mnil, mcons, hasName}
 use Rattle.model.proofs.Basics.{by-test, same-eq, same-comm}
 use Rattle.chars.specs.Bytes.{byteAt}
-use Rattle.chars.specs.Parse.{Parse, parsed, then, unexpected}
-use Rattle.chars.specs.Space.{isSpace, skip}
+use Rattle.tokens.specs.Parse.{Parse, parsed, then, unexpected}
+use Rattle.tokens.specs.Space.{isSpace, skip}
 use Rattle.chars.specs.Strings.{stringAt, part}
 use Rattle.chars.specs.declared.strings.Scan.{Scan}
 use Rattle.chars.specs.declared.strings.Scan.the-variants.{Ends, Stopped}
 use Rattle.chars.proofs.Facts.{in-text, string-close}
-use Rattle.reader.specs.Tree.{Node, Nodes, none, more, addNode, no-member, member}
-use Rattle.reader.specs.Tree.{Members as NodeMembers, addMember as addNodeMember}
-use Rattle.reader.specs.Grammar.{nameOf, repeated, memberAt}
-use Rattle.reader.specs.Spelling.{valueOf, valuesOf, membersOf}
-use Rattle.reader.proofs.Values.{name-bare, name-stopped, name-again, name-new, member-bare, member-value}
+use Rattle.syntax.specs.Tree.{Node, Nodes, none, more, addNode, no-member, member, Members as NodeMembers, addMember as addNodeMember}
+use Rattle.syntax.specs.Grammar.{nameOf, repeated, memberAt}
+use Rattle.syntax.specs.Spelling.{valueOf, valuesOf, membersOf}
+use Rattle.syntax.proofs.Facts.{name-bare, name-stopped, name-again, name-new, member-bare, member-value}
 use Rattle.grammar.specs.Written.{Language, IsSpace, IsChars, IsString}
 use Rattle.grammar.proofs.Trimmed.{TrimmedMember, addValue, addMember}
 use Rattle.grammar.proofs.Pieces.{At, at-first, at-second, Between, between-none, between, between-one, between-join, Spelled, Begun}

@@ -10,7 +10,7 @@ use borrow.Author.Tests.{eqb-true, leb-true, le-leb}
 use Rattle.model.specs.Text.{text, all, same}
 use Rattle.model.specs.Value.{isDigit, isDigits, isInt, isFraction, isPower, isExponent, IsNumber}
 use Rattle.model.proofs.Basics.{and-ways, or-true, same-eq}
-use Rattle.chars.proofs.Pieces.{all-append, all-imp}
+use Rattle.tokens.proofs.Facts.{all-append, all-imp}
 
 module _ (p : ℕ → Bool) (digit : (c : ℕ) → isDigit c ≡ true → p c ≡ true)
     (plus : p 0x2B ≡ true) (minus : p 0x2D ≡ true) (point : p 0x2E ≡ true) (upper : p 0x45 ≡ true) (lower : p 0x65 ≡ true) where

@@ -10,17 +10,16 @@ use lib.Dec.{eqb, leb}
 use borrow.Author.Tests.{eqb-true, eqb-false, ne-eqb, leb-true, le-leb}
 use Rattle.model.specs.Text.{text, all, same}
 use Rattle.model.specs.Value.{number, isDigit, isDigits, isInt, isFraction, isPower, isExponent, IsNumber}
-use Rattle.model.proofs.Basics.{clash}
-use Rattle.model.proofs.Basics.{or-true as or-ways, or-false, same-eq}
+use Rattle.model.proofs.Basics.{clash, or-true as or-ways, or-false, same-eq, both, and-ways}
 use Rattle.chars.specs.Bytes.{byteAt}
-use Rattle.chars.specs.Parse.{Parse, parsed}
-use Rattle.chars.specs.Space.{run}
+use Rattle.tokens.specs.Parse.{Parse, parsed}
+use Rattle.chars.specs.Runs.{run}
 use Rattle.chars.specs.Strings.{part}
-use Rattle.chars.specs.Tokens.{Kind, Whole, Fractional}
-use Rattle.chars.specs.Numbers.{digitsEnd, wholeEnd, signEnd, powerAt, exponentAt, fractionAt, unsignedAt, numberAt}
-use Rattle.chars.proofs.Facts.{both, and-ways, in-text, run-next, run-stop, sign-least, whole-some, digits-piece, whole-piece, Minus}
-use Rattle.chars.proofs.Pieces.{part-none, part-cons, part-one, run-some}
-use Rattle.reader.specs.Spelling.{scalarOf}
+use Rattle.tokens.specs.Tokens.{Kind, Whole, Fractional}
+use Rattle.tokens.specs.Numbers.{digitsEnd, wholeEnd, signEnd, powerAt, exponentAt, fractionAt, unsignedAt, numberAt}
+use Rattle.chars.proofs.Facts.{in-text, run-next, run-stop}
+use Rattle.tokens.proofs.Facts.{sign-least, whole-some, digits-piece, whole-piece, Minus, part-none, part-cons, part-one, run-some}
+use Rattle.syntax.specs.Spelling.{scalarOf}
 use Rattle.grammar.specs.Written.{IsLeaf}
 use Rattle.grammar.proofs.Pieces.{At, at-first, at-second, Follow, Between, between-none, between, between-one, between-join, Begun}
 use Rattle.grammar.proofs.Pieces.{Refusals, unexpected-refusals}

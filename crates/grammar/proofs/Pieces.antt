@@ -12,11 +12,12 @@ use borrow.Author.Tests.{ltb-true, ltb-false}
 use Rattle.model.specs.Text.{all}
 use Rattle.model.specs.Value.{isDigit}
 use Rattle.chars.specs.Bytes.{byteAt}
-use Rattle.chars.specs.Parse.{Parse, refused, parsed, then, unexpected}
+use Rattle.tokens.specs.Parse.{Parse, refused, parsed, then, unexpected}
 use Rattle.chars.specs.Strings.{part}
-use Rattle.chars.specs.Space.{isSpace, skip}
-use Rattle.chars.proofs.Pieces.{part-none, part-cons, part-one, part-join, run-all}
-use Rattle.chars.proofs.Facts.{both, run-from, run-within}
+use Rattle.tokens.specs.Space.{isSpace, skip}
+use Rattle.tokens.proofs.Facts.{part-none, part-cons, part-one, part-join, run-all}
+use Rattle.model.proofs.Basics.{both}
+use Rattle.chars.proofs.Facts.{run-from, run-within}
 use Rattle.grammar.specs.Written.{Language, IsSpace}
 
 -- the bytes w stand at i

@@ -7,8 +7,8 @@ use native.Mathlib.Omega.{arith}
 use lib.ListN.{length, take, length-take}
 use lib.Seq.{length-take-le, getD-take, take-at}
 use Rattle.chars.specs.Bytes.{byteAt}
-use Rattle.chars.specs.Parse.{refused, parsed}
-use Rattle.reader.specs.Grammar.{wholeAt, readText}
+use Rattle.tokens.specs.Parse.{refused, parsed}
+use Rattle.syntax.specs.Grammar.{wholeAt, readText}
 use Rattle.grammar.specs.Written.{Begins}
 use Rattle.grammar.proofs.Pieces.{Stop}
 use Rattle.grammar.proofs.TrimmedTexts.{text-trim, text-spread}

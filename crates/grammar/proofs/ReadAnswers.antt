@@ -6,10 +6,10 @@ use mathlib.Core.Bool.{Bool, true, false, cond}
 use native.Mathlib.Omega.{arith}
 use lib.Dec.{leb}
 use Rattle.model.proofs.Basics.{both}
-use Rattle.chars.specs.Parse.{Parse, refused, parsed}
-use Rattle.reader.specs.Tree.{Node}
-use Rattle.reader.specs.Rows.{size}
-use Rattle.reader.specs.Answer.{answer, rowsIn, answerOf}
+use Rattle.tokens.specs.Parse.{Parse, refused, parsed}
+use Rattle.syntax.specs.Tree.{Node}
+use Rattle.syntax.specs.Rows.{size}
+use Rattle.syntax.specs.Answer.{answer, rowsIn, answerOf}
 use Rattle.grammar.specs.Places.{IsRead}
 
 -- the answer on text number `which`, with a table of w words

@@ -8,15 +8,15 @@ use lib.ListN.{length, length-append}
 use lib.Dec.{eqb}
 use borrow.Author.Tests.{eqb-true, eqb-false}
 use Rattle.model.specs.Text.{all as every}
-use Rattle.model.proofs.Basics.{by-test}
+use Rattle.model.proofs.Basics.{by-test, and-ways}
 use Rattle.chars.specs.Bytes.{byteAt}
-use Rattle.chars.specs.Parse.{Parse, refused, parsed}
-use Rattle.chars.specs.Space.{isSpace, skip}
+use Rattle.tokens.specs.Parse.{Parse, refused, parsed}
+use Rattle.tokens.specs.Space.{isSpace, skip}
 use Rattle.chars.specs.Strings.{part}
-use Rattle.chars.proofs.Facts.{and-ways, in-text}
-use Rattle.chars.proofs.Pieces.{part-none}
-use Rattle.reader.specs.Grammar.{itemsAt, listAt}
-use Rattle.reader.proofs.Items.{Reads, item-takes, items-refused, items-next, items-close, items-bad, list-empty, list-items}
+use Rattle.chars.proofs.Facts.{in-text}
+use Rattle.tokens.proofs.Facts.{part-none}
+use Rattle.syntax.specs.Grammar.{itemsAt, listAt}
+use Rattle.syntax.proofs.Facts.{Reads, item-takes, items-refused, items-next, items-close, items-bad, list-empty, list-items}
 use Rattle.grammar.specs.Written.{Language, IsSpace}
 use Rattle.grammar.proofs.Trimmed.{TrimmedSeries, first-item, next-item, TrimmedBracketed, no-items, some-items}
 use Rattle.grammar.proofs.Pieces.{At, at-first, at-second, between, between-one, between-join, Spelled, Begun, Sound, spelled-begun}

@@ -15,9 +15,9 @@ use Rattle.chars.specs.declared.characters.Step.{Step}
 use Rattle.chars.specs.declared.characters.Step.the-variants.{Char, Quote, Refused}
 use Rattle.chars.specs.declared.strings.Scan.{Scan}
 use Rattle.chars.specs.declared.strings.Scan.the-variants.{Ends, Stopped}
-use Rattle.chars.proofs.Facts.{char-next, string-char, string-quote, string-stop, string-close, chars-step, chars-char, quoted-characters}
-use Rattle.chars.proofs.Pieces.{part-none}
-use Rattle.reader.specs.Grammar.{nameOf}
+use Rattle.chars.proofs.Facts.{char-next, string-char, string-quote, string-stop, string-close, chars-step, chars-char}
+use Rattle.tokens.proofs.Facts.{quoted-characters, part-none}
+use Rattle.syntax.specs.Grammar.{nameOf}
 use Rattle.grammar.specs.Written.{Language, IsChar, IsChars, no-char, char, IsString}
 use Rattle.grammar.proofs.Pieces.{At, at-first, at-second, Between, between-none, between, between-one, between-join, Spelled, Begun}
 use Rattle.grammar.proofs.Pieces.{Stop, begun-more, begun-in, spelled-in}

@@ -10,20 +10,19 @@ use lib.Dec.{ltb}
 use borrow.Author.Tests.{ltb-true, ltb-false, le-ltb}
 use Rattle.model.specs.Value.{Value}
 use Rattle.model.specs.Text.{all as every}
-use Rattle.model.proofs.Basics.{by-test}
+use Rattle.model.proofs.Basics.{by-test, both, and-ways}
 use Rattle.chars.specs.Bytes.{byteAt}
-use Rattle.chars.specs.Parse.{Parse, refused, parsed, then}
-use Rattle.chars.specs.Space.{isSpace, skip}
+use Rattle.tokens.specs.Parse.{Parse, refused, parsed, then}
+use Rattle.tokens.specs.Space.{isSpace, skip}
 use Rattle.chars.specs.Strings.{part}
-use Rattle.chars.proofs.Facts.{both, and-ways}
-use Rattle.reader.specs.Tree.{Node}
-use Rattle.reader.specs.Grammar.{valueAt, alone, wholeAt, readText}
-use Rattle.reader.specs.Spelling.{valueOf}
-use Rattle.reader.proofs.Theorems.{read-whole}
+use Rattle.syntax.specs.Tree.{Node}
+use Rattle.syntax.specs.Grammar.{valueAt, alone, wholeAt, readText}
+use Rattle.syntax.specs.Spelling.{valueOf}
+use Rattle.syntax.proofs.Theorems.{read-whole}
 use Rattle.grammar.specs.Written.{IsSpace}
 use Rattle.grammar.proofs.Trimmed.{TrimmedValue, TrimmedText}
-use Rattle.grammar.proofs.Pieces.{At, at-first, at-second, at-behind, between, between-join, Spelled, Begun, Stop, Sound}
-use Rattle.grammar.proofs.Pieces.{spelled-begun, begun-more, spelled-in, Space, spaced, space-spelled, Follow}
+use Rattle.grammar.proofs.Pieces.{At, at-first, at-second, at-behind, between, between-join, Spelled, Begun, Stop, Sound, spelled-begun}
+use Rattle.grammar.proofs.Pieces.{begun-more, spelled-in, Space, spaced, space-spelled, Follow}
 use Rattle.grammar.proofs.Series.{space-follow, skip-reads}
 use Rattle.grammar.proofs.Values.{value-sound, value-first, value-reads}
 

@@ -8,14 +8,14 @@ use lib.ListN.{length, take}
 use lib.Dec.{ltb}
 use Rattle.model.specs.Text.{all}
 use Rattle.model.specs.Value.{Value, IsJson}
-use Rattle.chars.specs.Parse.{Parse, refused, parsed}
-use Rattle.reader.specs.Tree.{Node}
-use Rattle.reader.specs.Grammar.{readText}
-use Rattle.reader.specs.Spelling.{valueOf}
-use Rattle.reader.specs.Answer.{documentLimits, readWithin, answerOf}
-use Rattle.reader.specs.declared.limits.Limits.{Limits}
-use Rattle.reader.specs.declared.answers.Answer.{Answer}
-use Rattle.reader.proofs.Theorems.{read-json, read-short, read-code}
+use Rattle.tokens.specs.Parse.{Parse, refused, parsed}
+use Rattle.syntax.specs.Tree.{Node}
+use Rattle.syntax.specs.Grammar.{readText}
+use Rattle.syntax.specs.Spelling.{valueOf}
+use Rattle.syntax.specs.Answer.{documentLimits, readWithin, answerOf}
+use Rattle.syntax.specs.declared.limits.Limits.{Limits}
+use Rattle.syntax.specs.declared.answers.Answer.{Answer}
+use Rattle.syntax.proofs.Theorems.{read-json, read-short, read-code}
 use Rattle.grammar.specs.Written.{IsJsonText}
 use Rattle.grammar.specs.Places.{bytesWithin, depthWithin, IsRead, ReadsExactly, PlaceMeans}
 use Rattle.grammar.proofs.TrimmedTexts.{text-trim, text-spread}

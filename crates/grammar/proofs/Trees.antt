@@ -9,13 +9,13 @@ use native.Mathlib.Decide.{decLt}
 use lib.ListN.{length}
 use lib.Dec.{ltb}
 use borrow.Author.Tests.{ltb-true, ltb-false}
-use Rattle.model.proofs.Basics.{clash}
+use Rattle.model.proofs.Basics.{clash, both}
 use Rattle.chars.specs.Bytes.{byteAt}
 use Rattle.chars.specs.Characters.{stopAt}
 use Rattle.chars.specs.declared.characters.Step.{Step}
 use Rattle.chars.specs.declared.characters.Step.the-variants.{Char, Quote, Refused}
-use Rattle.chars.proofs.Facts.{both, in-text}
-use Rattle.chars.proofs.Pieces.{part-none}
+use Rattle.chars.proofs.Facts.{in-text}
+use Rattle.tokens.proofs.Facts.{part-none}
 use Rattle.grammar.proofs.Pieces.{At, between-one, Spelled, Begun, Stop, begun-none, begun-same, spelled-in, begun-in}
 
 -- a character; or a byte that has to pass a test, the code of one that does not, and what follows it

@@ -7,8 +7,8 @@ use mathlib.Core.List.{List, [], _∷_, _++_, append-assoc}
 use Rattle.model.specs.Text.{same}
 use Rattle.model.specs.Value.{Value, array, object, Values, vnil, vcons, Members, mnil, mcons, hasName}
 use Rattle.model.proofs.Basics.{or-false, same-comm}
-use Rattle.grammar.specs.Written.{Language, structural, values, IsArray, is-array, Member, IsMember, is-member}
-use Rattle.grammar.specs.Written.{members, Differ, IsObject, is-object, IsValue, IsJsonText, is-text}
+use Rattle.grammar.specs.Written.{Language, structural, values, IsArray, is-array, Member, IsMember, is-member, members, Differ}
+use Rattle.grammar.specs.Written.{IsObject, is-object, IsValue, IsJsonText, is-text}
 use Rattle.grammar.proofs.Trimmed.{Padded, addValue, addMember, TrimmedElement, TrimmedMember, TrimmedBracketed, TrimmedArray, TrimmedObject, TrimmedValue, TrimmedText}
 use Rattle.grammar.proofs.Trimming.{space-append, padded-as, padded-none, adds, Fits, bracketed-trim, bracketed-spread}
 

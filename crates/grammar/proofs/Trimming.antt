@@ -2,7 +2,7 @@
 use Prim.Native.Nat.{ℕ}
 use mathlib.Core.Path.{_≡_, refl, sym, ap, _∙_, subst}
 use mathlib.Core.List.{List, [], _∷_, _++_, append-assoc, append-nil}
-use Rattle.chars.proofs.Pieces.{all-append}
+use Rattle.tokens.proofs.Facts.{all-append}
 use Rattle.grammar.specs.Written.{Language, IsSpace, IsStructural, structural, IsSeries, one, more, IsBracketed, empty, series}
 use Rattle.grammar.proofs.Trimmed.{Padded, TrimmedSeries, first-item, next-item, TrimmedBracketed, no-items, some-items}
 

@@ -8,18 +8,17 @@ use lib.ListN.{length}
 use Rattle.model.specs.Text.{text}
 use Rattle.model.specs.Value.{Value, null, array, object, vnil, mnil}
 use Rattle.chars.specs.Bytes.{byteAt}
-use Rattle.chars.specs.Parse.{Parse, refused, parsed}
-use Rattle.chars.specs.Space.{isSpace}
-use Rattle.chars.specs.Scalars.{firstOf}
-use Rattle.chars.specs.declared.scalars.First.{First}
-use Rattle.chars.specs.declared.scalars.First.the-variants.{Array, Object, Quote, Number, LetterN, LetterF, LetterT, Other}
-use Rattle.chars.proofs.Facts.{in-text, first-array, first-object, array-first, object-first}
-use Rattle.reader.specs.Tree.{Node, Nodes, none, addNode, no-member}
-use Rattle.reader.specs.Tree.{array as nodeArray, object as nodeObject}
-use Rattle.reader.specs.Grammar.{listAt, elementAt, arrayAt, memberAt, objectAt, leafAt, valueBy, valueAt}
-use Rattle.reader.specs.Spelling.{valueOf, valuesOf, membersOf}
-use Rattle.reader.proofs.Values.{value-leaf, element-reads}
-use Rattle.reader.proofs.Values.{member-reads as member-takes}
+use Rattle.tokens.specs.Parse.{Parse, refused, parsed}
+use Rattle.tokens.specs.Space.{isSpace}
+use Rattle.tokens.specs.Scalars.{firstOf}
+use Rattle.tokens.specs.declared.scalars.First.{First}
+use Rattle.tokens.specs.declared.scalars.First.the-variants.{Array, Object, Quote, Number, LetterN, LetterF, LetterT, Other}
+use Rattle.chars.proofs.Facts.{in-text}
+use Rattle.tokens.proofs.Facts.{first-array, first-object, array-first, object-first}
+use Rattle.syntax.specs.Tree.{Node, Nodes, none, addNode, no-member, array as nodeArray, object as nodeObject}
+use Rattle.syntax.specs.Grammar.{listAt, elementAt, arrayAt, memberAt, objectAt, leafAt, valueBy, valueAt}
+use Rattle.syntax.specs.Spelling.{valueOf, valuesOf, membersOf}
+use Rattle.syntax.proofs.Facts.{value-leaf, element-reads, member-reads as member-takes}
 use Rattle.grammar.specs.Written.{Language, IsLeaf}
 use Rattle.grammar.proofs.Trimmed.{TrimmedElement, TrimmedMember, TrimmedBracketed, no-items, some-items, TrimmedArray, TrimmedObject}
 use Rattle.grammar.proofs.Trimmed.{TrimmedValue, addValue}

@@ -5,8 +5,8 @@ use mathlib.Core.Logic.{_⊎_}
 use mathlib.Core.List.{List}
 use lib.ListN.{length, take}
 use Rattle.model.specs.Value.{Value}
-use Rattle.reader.specs.declared.answers.Answer.{Answer}
-use Rattle.reader.specs.declared.limits.Limits.{Limits}
+use Rattle.syntax.specs.declared.answers.Answer.{Answer}
+use Rattle.syntax.specs.declared.limits.Limits.{Limits}
 use Rattle.grammar.specs.Written.{IsJsonText, Begins}
 
 -- the limits that count: none above a document's (reader/specs/Answer, `readWithin`)

@@ -5,8 +5,7 @@ use mathlib.Core.Logic.{inl, inr}
 use mathlib.Core.Bool.{Bool, true, false, not, _&&_, false≢true, true≢false, Bool·beq, and-eq-true-iff}
 use mathlib.Core.List.{List, _∷_}
 use lib.ListN.{length}
-use Rattle.model.specs.Value.{Value, null, array, object, Values, vnil, Members, mnil, mcons, Among, Under, hasName}
-use Rattle.model.specs.Value.{IsJson}
+use Rattle.model.specs.Value.{Value, null, array, object, Values, vnil, Members, mnil, mcons, Among, Under, hasName, IsJson}
 use Rattle.model.specs.Definition.{Named, JSON, Schema, Float, Integer, String, Boolean, DateTime, Def, named, array-of, map-of}
 use Rattle.model.specs.Definition.{object-of, Fields, fnil, fcons, hasField}
 use Rattle.model.specs.Meeting.{IfArray, IfObject, meetsNamed, HasNames, Meets, FieldsMeet}
@@ -15,8 +14,8 @@ use Rattle.model.specs.Subtype.{is, subtypeNamed, ofObjects, other, unde
 use Rattle.model.specs.Witness.{plain, apart, sample, kept, behind, avoiding, ownNames, fresh, others, beyondNamed, witness, witnessFields}
 use Rattle.model.proofs.Basics.{and-ways, not-true, not-false, clash, false-of, both}
 use Rattle.model.proofs.Formed.{WellFormed, AreFields}
-use Rattle.model.proofs.Samples.{plain-meets, plain-json, kept-name, sample-meets, sample-json, member-json, member-meets}
-use Rattle.model.proofs.Samples.{fresh-text, fresh-under, other-formed, under-formed}
+use Rattle.model.proofs.Samples.{plain-meets, plain-json, kept-name, sample-meets, sample-json, member-json, member-meets, fresh-text}
+use Rattle.model.proofs.Samples.{fresh-under, other-formed, under-formed}
 
 -- v is a JSON value that meets a and fails b
 abbrev pub Works : Def → Def → Value → Type 0

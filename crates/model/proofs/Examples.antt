@@ -4,8 +4,8 @@ use mathlib.Core.Logic.{inl, inr}
 use mathlib.Core.Bool.{true, false}
 use mathlib.Core.List.{[], _∷_}
 use Rattle.model.specs.Text.{text, same, isScalar, isText}
-use Rattle.model.specs.Value.{null, boolean, number, string, array, object, vcons, vnil, mcons, mnil}
-use Rattle.model.specs.Value.{isInt, isFraction, isExponent, isInteger, IsNumber, IsJson, hasName}
+use Rattle.model.specs.Value.{null, boolean, number, string, array, object, vcons, vnil, mcons, mnil, isInt, isFraction, isExponent}
+use Rattle.model.specs.Value.{isInteger, IsNumber, IsJson, hasName}
 
 names :
     (same (text "a") (text "a") ≡ true)

@@ -5,11 +5,9 @@ use mathlib.Core.Bool.{true, false, _||_}
 use mathlib.Core.Option.{Option, none, some}
 use mathlib.Core.List.{List}
 use Rattle.model.specs.Text.{text, same, isText}
-use Rattle.model.specs.Value.{Value, null, boolean, number, string, array, object, Members, mnil, mcons, hasName, IsJson}
-use Rattle.model.specs.Value.{AreMembers}
-use Rattle.model.specs.Definition.{Def, named, array-of, map-of, object-of, Fields, fnil, fcons, hasField, disjoint, namedBy}
-use Rattle.model.specs.Definition.{isEmpty, mapped, added, joined, constructed, definitionOf, single, objectOf, part, fieldsOf}
-use Rattle.model.specs.Definition.{fieldsIn}
+use Rattle.model.specs.Value.{Value, null, boolean, number, string, array, object, Members, mnil, mcons, hasName, IsJson, AreMembers}
+use Rattle.model.specs.Definition.{Def, named, array-of, map-of, object-of, Fields, fnil, fcons, hasField, disjoint, namedBy, isEmpty}
+use Rattle.model.specs.Definition.{mapped, added, joined, constructed, definitionOf, single, objectOf, part, fieldsOf, fieldsIn}
 use Rattle.model.proofs.Basics.{both}
 
 -- a definition that some JSON value is: names are texts, differ, and are not both required and optional

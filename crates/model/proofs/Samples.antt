@@ -16,8 +16,8 @@ use Rattle.model.specs.Definition.{object-of, Fields, fnil, fcons, hasFi
 use Rattle.model.specs.Meeting.{meetsNamed, HasNames, Meets, FieldsMeet}
 use Rattle.model.specs.Subtype.{fieldOr, ofObjects, other, under}
 use Rattle.model.specs.Witness.{plain, sample, kept, following, behind, rarer, avoiding, names, ownNames, fresh, others, withMember}
-use Rattle.model.proofs.Basics.{same-eq, same-of, same-refl, or-true, or-false, or-left, or-right, not-true, clash, false-of}
-use Rattle.model.proofs.Basics.{both, by-test}
+use Rattle.model.proofs.Basics.{same-eq, same-of, same-refl, or-true, or-false, or-left, or-right, not-true, clash, false-of, both}
+use Rattle.model.proofs.Basics.{by-test}
 use Rattle.model.proofs.Formed.{WellFormed, AreFields}
 
 pub plain-meets : (t : Named) → meetsNamed t (plain t) ≡ true

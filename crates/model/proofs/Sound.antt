@@ -5,14 +5,12 @@ use mathlib.Core.Logic.{inl, inr}
 use mathlib.Core.Bool.{Bool, true, _&&_, _||_, false≢true, and-eq-true-iff}
 use mathlib.Core.List.{List}
 use Rattle.model.specs.Text.{same}
-use Rattle.model.specs.Value.{Value, null, boolean, number, string, array, object, Values, Members, Among, Under, hasName}
-use Rattle.model.specs.Value.{isInteger}
+use Rattle.model.specs.Value.{Value, null, boolean, number, string, array, object, Values, Members, Among, Under, hasName, isInteger}
 use Rattle.model.specs.Date.{isDate}
 use Rattle.model.specs.Definition.{Named, Named-discrete, JSON, Float, Integer, String, DateTime, Def, named, array-of, map-of}
 use Rattle.model.specs.Definition.{object-of, Fields, fnil, fcons, hasField}
 use Rattle.model.specs.Meeting.{IfArray, IfObject, HasNames, Meets, FieldsMeet, ifNumber, ifString}
-use Rattle.model.specs.Subtype.{isYes, is, subtypeNamed, fieldOr, ofObjects, other, under, requires, requiresAll, subtype}
-use Rattle.model.specs.Subtype.{subtypeFields}
+use Rattle.model.specs.Subtype.{isYes, is, subtypeNamed, fieldOr, ofObjects, other, under, requires, requiresAll, subtype, subtypeFields}
 use Rattle.model.proofs.Basics.{same-eq, or-true, both}
 
 -- every value that meets a meets b

@@ -4,8 +4,7 @@ use mathlib.Core.Path.{_≡_}
 use mathlib.Core.Bool.{Bool, true, false}
 use mathlib.Core.Option.{Option, none, some}
 use mathlib.Core.List.{List}
-use Rattle.model.specs.Value.{Value, null, boolean, number, string, array, object, Values, Members, Among, Under, hasName}
-use Rattle.model.specs.Value.{isInteger}
+use Rattle.model.specs.Value.{Value, null, boolean, number, string, array, object, Values, Members, Among, Under, hasName, isInteger}
 use Rattle.model.specs.Date.{isDate}
 use Rattle.model.specs.Definition.{Named, JSON, Schema, Float, Integer, String, Boolean, DateTime, Def, named, array-of, map-of}
 use Rattle.model.specs.Definition.{object-of, Fields, fnil, fcons, definitionOf}

@@ -1,18 +1,18 @@
 // Read (01, "Three services").
-use crate::answers::Answer;
-use crate::filling::ROW_WORDS;
-use crate::filling::fill;
-use crate::limits::Limits;
 use crate::scanning::Scanned;
 use crate::scanning::value;
-use chars::first_at;
-use chars::skip;
+use marks::fill;
+use syntax::Answer;
+use syntax::Limits;
+use syntax::ROW_WORDS;
+use tokens::first_at;
+use tokens::skip;
 ghost use mathlib.Core.Path.{_≡_};
 ghost use Prim.Native.Nat.{min, _≤_};
 ghost use lib.ListN.{length};
-ghost use Rattle.reader.specs.Grammar.{wholeAt};
-ghost use Rattle.reader.specs.Answer.{documentLimits, readWithin, answerOf, tableOf};
-ghost use Rattle.reader.specs.Passes.{scanOf, Ready};
+ghost use Rattle.syntax.specs.Grammar.{wholeAt};
+ghost use Rattle.syntax.specs.Answer.{documentLimits, readWithin, answerOf, tableOf};
+ghost use Rattle.reader.specs.Scanning.{scanOf, Ready};
 
 // Both passes over a whole text, in the working room given.
 fn read_in(

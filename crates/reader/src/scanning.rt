@@ -1,25 +1,25 @@
 // The first pass: judges a text and keeps its rows, and touches no table.
-use crate::marks::leaf_mark;
-use crate::marks::list_mark;
-use crate::names::name;
-use crate::names::push;
-use chars::First;
 use chars::Hashed;
-use chars::Token;
-use chars::first_at;
-use chars::integer_end;
 use chars::peek;
-use chars::scalar;
-use chars::skip;
+use marks::leaf_mark;
+use marks::list_mark;
+use marks::name;
+use marks::push;
+use tokens::First;
+use tokens::Token;
+use tokens::first_at;
+use tokens::integer_end;
+use tokens::scalar;
+use tokens::skip;
 ghost use mathlib.Core.Path.{_≡_};
 ghost use Prim.Native.Nat.{_+_, _<_};
 ghost use mathlib.Core.Bool.{false};
 ghost use lib.ListN.{length, set};
-ghost use Rattle.chars.specs.Parse.{unexpected};
-ghost use Rattle.chars.specs.Space.{isSpace, skip as skipped};
-ghost use Rattle.reader.specs.Grammar.{leafAt, valueAt, arrayAt, objectAt};
-ghost use Rattle.reader.specs.Marks.{listMark};
-ghost use Rattle.reader.specs.Passes.{scanOf, Begun, LeafReady, LeafTold, ListFits, Follows, Ready, Told, MemberReady, MemberTold};
+ghost use Rattle.tokens.specs.Parse.{unexpected};
+ghost use Rattle.tokens.specs.Space.{isSpace, skip as skipped};
+ghost use Rattle.syntax.specs.Grammar.{leafAt, valueAt, arrayAt, objectAt};
+ghost use Rattle.marks.specs.Marks.{listMark};
+ghost use Rattle.reader.specs.Scanning.{scanOf, Begun, LeafReady, LeafTold, ListFits, Follows, Ready, Told, MemberReady, MemberTold};
 ghost use Rattle.reader.specs.declared.scanning.Scanned.the-variants.{Value};
 
 // A value: where it ends and how many rows it has; or a refusal.

@@ -1,3 +1,2 @@
 -- For the writers: the fields of a row (Fields), what is lent and written, piece by piece (Lent).
-pub mod Fields
 pub mod Lent

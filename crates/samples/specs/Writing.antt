@@ -9,15 +9,15 @@ use Rattle.model.specs.Text.{same}
 use Rattle.model.specs.Value.{Value, null, object, Members}
 use Rattle.model.specs.Definition.{Named, Def}
 use Rattle.model.specs.Witness.{plain as plainValue, apart, sample, kept, counted, names, ownNames, fresh, others, beyondNamed}
-use Rattle.chars.specs.Spelling.{IsQuoted}
-use Rattle.reader.specs.Grammar.{nameOf}
-use Rattle.reader.specs.Holding.{word}
+use Rattle.tokens.specs.Spelling.{IsQuoted}
+use Rattle.syntax.specs.Grammar.{nameOf}
+use Rattle.syntax.specs.Holding.{word}
 use Rattle.writer.specs.Spell.{spell, spellString, spellMembers, beforeMembers}
 use Rattle.writer.specs.Compact.{over}
-use Rattle.schema.specs.Located.{plain, plainFields}
-use Rattle.schema.specs.Walking.{InTable}
-use Rattle.schema.specs.Comparing.{DefinedRow, GenericRow, FieldsRow}
-use Rattle.schema.specs.declared.names.Generic.the-variants.{Object}
+use Rattle.definitions.specs.Definitions.{bare, bareFields}
+use Rattle.rows.specs.Records.{InTable}
+use Rattle.definitions.specs.Shapes.{DefinedRow, GenericRow, FieldsRow}
+use Rattle.definitions.specs.declared.types.Generic.the-variants.{Object}
 
 -- the bytes w are written from byte 0 of what is lent, and n is how many they are
 abbrev pub Writes : List ℕ → ℕ → List ℕ → List ℕ → Type 0
@@ -59,10 +59,10 @@ further ms = beforeMembers ms (spellMembers ms)
 -- the sample itself
 pub record SampleReady (s t : List ℕ) (r room : ℕ) : Type 0 where
   pub row : DefinedRow s t r
-  pub fits : length (spell (sample (plain (row .definition)))) ≤ room
+  pub fits : length (spell (sample (bare (row .definition)))) ≤ room
 
 pub record SampleWritten (s t : List ℕ) (r n : ℕ) (out out₂ : List ℕ) : Type 0 where
-  pub tells : (d : DefinedRow s t r) → Writes (spell (sample (plain (d .definition)))) n out out₂
+  pub tells : (d : DefinedRow s t r) → Writes (spell (sample (bare (d .definition)))) n out out₂
 
 -- a field as a member behind a comma
 abbrev pub fieldBytes : List ℕ → Def → List ℕ
@@ -73,10 +73,10 @@ pub record FieldReady (s t : List ℕ) (r room : ℕ) : Type 0 where
   pub name : InTable t r
   pub quoted : IsQuoted s (word t r 1) (word t r 2)
   pub row : DefinedRow s t (r + 1)
-  pub fits : length (fieldBytes (nameOf s (word t r 1) (word t r 2)) (plain (row .definition))) ≤ room
+  pub fits : length (fieldBytes (nameOf s (word t r 1) (word t r 2)) (bare (row .definition))) ≤ room
 
 pub record FieldWritten (s t : List ℕ) (r n : ℕ) (out out₂ : List ℕ) : Type 0 where
-  pub tells : (d : DefinedRow s t (r + 1)) → Writes (fieldBytes (nameOf s (word t r 1) (word t r 2)) (plain (d .definition))) n out out₂
+  pub tells : (d : DefinedRow s t (r + 1)) → Writes (fieldBytes (nameOf s (word t r 1) (word t r 2)) (bare (d .definition))) n out out₂
 
 -- the name m is kept: all are, or it is not the key
 abbrev pub keeps : Bool → List ℕ → List ℕ → Bool
@@ -85,52 +85,52 @@ keeps all key m = all || not (same key m)
 -- the fields at row r, but the one of the key
 pub record FieldsReady (s t : List ℕ) (r : ℕ) (all : Bool) (key : List ℕ) (room : ℕ) : Type 0 where
   pub row : FieldsRow s t r
-  pub fits : length (further (kept (keeps all key) (plainFields (row .fields)))) ≤ room
+  pub fits : length (further (kept (keeps all key) (bareFields (row .fields)))) ≤ room
 
 pub record FieldsWritten (s t : List ℕ) (r : ℕ) (all : Bool) (key : List ℕ) (n : ℕ) (out out₂ : List ℕ) : Type 0 where
-  pub tells : (f : FieldsRow s t r) → Writes (further (kept (keeps all key) (plainFields (f .fields)))) n out out₂
+  pub tells : (f : FieldsRow s t r) → Writes (further (kept (keeps all key) (bareFields (f .fields)))) n out out₂
 
 -- the object of all fields at row r
 pub record RequiredReady (s t : List ℕ) (r room : ℕ) : Type 0 where
   pub row : FieldsRow s t r
-  pub fits : length (spell (object (kept (λ m. true) (plainFields (row .fields))))) ≤ room
+  pub fits : length (spell (object (kept (λ m. true) (bareFields (row .fields))))) ≤ room
 
 pub record RequiredWritten (s t : List ℕ) (r n : ℕ) (out out₂ : List ℕ) : Type 0 where
-  pub tells : (f : FieldsRow s t r) → Writes (spell (object (kept (λ m. true) (plainFields (f .fields))))) n out out₂
+  pub tells : (f : FieldsRow s t r) → Writes (spell (object (kept (λ m. true) (bareFields (f .fields))))) n out out₂
 
 -- the members that the definition at row r asks for, but the one of the key
 pub record OthersReady (s t : List ℕ) (r : ℕ) (key : List ℕ) (room : ℕ) : Type 0 where
   pub row : DefinedRow s t r
-  pub fits : length (further (others (plain (row .definition)) key)) ≤ room
+  pub fits : length (further (others (bare (row .definition)) key)) ≤ room
 
 pub record OthersWritten (s t : List ℕ) (r : ℕ) (key : List ℕ) (n : ℕ) (out out₂ : List ℕ) : Type 0 where
-  pub tells : (d : DefinedRow s t r) → Writes (further (others (plain (d .definition)) key)) n out out₂
+  pub tells : (d : DefinedRow s t r) → Writes (further (others (bare (d .definition)) key)) n out out₂
 
 -- ---- a name that the definition at row r does not name
 
 -- how many names of the fields at row r begin with p
 pub record CountsFields (s t : List ℕ) (r : ℕ) (p : List ℕ) (n : ℕ) : Type 0 where
-  pub tells : (f : FieldsRow s t r) → n ≡ counted p (names (plainFields (f .fields)))
+  pub tells : (f : FieldsRow s t r) → n ≡ counted p (names (bareFields (f .fields)))
 
 -- how many of the definition there
 pub record CountsNames (s t : List ℕ) (r : ℕ) (p : List ℕ) (n : ℕ) : Type 0 where
-  pub tells : (d : DefinedRow s t r) → n ≡ counted p (ownNames (plain (d .definition)))
+  pub tells : (d : DefinedRow s t r) → n ≡ counted p (ownNames (bare (d .definition)))
 
 -- the letters of the name; the definition is an Object
 pub record LettersReady (s t : List ℕ) (r room : ℕ) : Type 0 where
   pub row : DefinedRow s t r
   pub is : GenericRow s t r Object
-  pub fits : length (fresh (plain (row .definition))) ≤ room
+  pub fits : length (fresh (bare (row .definition))) ≤ room
 
 pub record LettersWritten (s t : List ℕ) (r n : ℕ) (out out₂ : List ℕ) : Type 0 where
-  pub tells : (d : DefinedRow s t r) → Writes (fresh (plain (d .definition))) n out out₂
+  pub tells : (d : DefinedRow s t r) → Writes (fresh (bare (d .definition))) n out out₂
 
 -- ---- beyond the named types
 
 -- a value of the definition at row r that meets only those that take all of it
 pub record BeyondReady (s t : List ℕ) (r room : ℕ) : Type 0 where
   pub row : DefinedRow s t r
-  pub fits : length (spell (beyondNamed (plain (row .definition)))) ≤ room
+  pub fits : length (spell (beyondNamed (bare (row .definition)))) ≤ room
 
 pub record BeyondWritten (s t : List ℕ) (r n : ℕ) (out out₂ : List ℕ) : Type 0 where
-  pub tells : (d : DefinedRow s t r) → Writes (spell (beyondNamed (plain (d .definition)))) n out out₂
+  pub tells : (d : DefinedRow s t r) → Writes (spell (beyondNamed (bare (d .definition)))) n out out₂

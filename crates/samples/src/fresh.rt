@@ -5,17 +5,17 @@ use crate::values::write_fields;
 use chars::Step;
 use chars::char_at;
 use chars::peek;
-use schema::Generic;
-use schema::find;
-use schema::generic_at;
-use schema::row_at;
-use schema::type_at;
+use definitions::Generic;
+use definitions::generic_at;
+use definitions::type_at;
+use rows::find;
+use rows::row_at;
 ghost use mathlib.Core.Path.{_≡_};
 ghost use lib.ListN.{length};
 ghost use Rattle.model.specs.Witness.{begins as beginsWith};
 ghost use Rattle.chars.specs.Strings.{characters};
-ghost use Rattle.schema.specs.Comparing.{DefinedRow, GenericRow, FieldsRow};
-ghost use Rattle.schema.specs.declared.names.Generic.the-variants.{Object};
+ghost use Rattle.definitions.specs.Shapes.{DefinedRow, GenericRow, FieldsRow};
+ghost use Rattle.definitions.specs.declared.types.Generic.the-variants.{Object};
 ghost use Rattle.samples.specs.Writing.{CountsFields, CountsNames, LettersReady, LettersWritten, BeyondReady, BeyondWritten};
 
 // Whether a name, given as the bytes between its quotes, begins with the letters.

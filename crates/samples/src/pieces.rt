@@ -1,10 +1,10 @@
 // The pieces of a document: each writer writes from byte 0 of what it is lent, and tells how many bytes it wrote.
-use schema::TypeName;
+use definitions::TypeName;
 use writer::write_string;
 ghost use Prim.Native.Nat.{_≤_};
 ghost use lib.ListN.{length};
 ghost use Rattle.writer.specs.Spell.{spell};
-ghost use Rattle.schema.specs.Names.{typeOf};
+ghost use Rattle.comparison.specs.Carrying.{typeOf};
 ghost use Rattle.samples.specs.Writing.{plainBy, apartBy, Writes, NameReady, NameWritten};
 
 // Writes bytes as they stand.

@@ -9,20 +9,22 @@ use lib.Dec.{eqb}
 use Rattle.model.specs.Text.{text}
 use Rattle.model.specs.Definition.{JSON, Schema, Float, Integer, String, Boolean, DateTime}
 use Rattle.chars.specs.Bytes.{codeOf, digit, named, lowest, highest, sixBits}
-use Rattle.chars.specs.Parse.{Parse, refused, parsed, unexpected}
-use Rattle.chars.specs.Space.{runFrom, run, isSpace}
+use Rattle.tokens.specs.Parse.{Parse, refused, parsed, unexpected}
+use Rattle.chars.specs.Runs.{runFrom, run}
+use Rattle.tokens.specs.Space.{isSpace}
 use Rattle.chars.specs.Characters.{stopAt, wrongAt, hexPair, partnerAt, restAt, unicodeAt, escapeAt, twoAt, threeAt, fourAt, charFrom, charAt}
 use Rattle.chars.specs.Strings.{stringFrom, stringAt, charsFrom, charsAt}
-use Rattle.chars.specs.Numbers.{wholeEnd, signEnd, powerAt, exponentAt, fractionAt, unsignedAt, numberAt}
-use Rattle.chars.specs.Scalars.{firstOf, wordAt}
-use Rattle.chars.specs.Tokens.{Null, Whole, Quoted}
-use Rattle.reader.specs.Tree.{Node, scalar, array, object, none, more, no-member}
-use Rattle.reader.specs.Grammar.{afterItem, itemsFrom, itemsAt, listAt, repeated, nameAt, afterName, valueAt, alone, readText}
-use Rattle.reader.specs.Answer.{answer, tableOf}
-use Rattle.reader.specs.declared.answers.Answer.{Answer}
-use Rattle.schema.specs.Located.{Located, named-at, array-at, map-at, object-at, no-field, field, Defined, faulty, fine, definitionAt}
-use Rattle.schema.specs.Mismatch.{mismatch, nothing, mismatchAt}
-use Rattle.schema.specs.Check.{readSchema, accept, checkAnswer, checkTable}
+use Rattle.tokens.specs.Numbers.{wholeEnd, signEnd, powerAt, exponentAt, fractionAt, unsignedAt, numberAt}
+use Rattle.tokens.specs.Scalars.{firstOf, wordAt}
+use Rattle.tokens.specs.Tokens.{Null, Whole, Quoted}
+use Rattle.syntax.specs.Tree.{Node, scalar, array, object, none, more, no-member}
+use Rattle.syntax.specs.Grammar.{afterItem, itemsFrom, itemsAt, listAt, repeated, nameAt, afterName, valueAt, alone, readText}
+use Rattle.syntax.specs.Answer.{answer, tableOf}
+use Rattle.syntax.specs.declared.answers.Answer.{Answer}
+use Rattle.definitions.specs.Definitions.{Located, named-at, array-at, map-at, object-at, no-field, field, Defined, faulty, fine, definitionAt}
+use Rattle.schema.specs.Judging.{mismatch, nothing, mismatchAt}
+use Rattle.definitions.specs.Accepting.{readSchema, accept}
+use Rattle.schema.specs.Checking.{checkAnswer, checkTable}
 
 -- ---- how the examples are written
 

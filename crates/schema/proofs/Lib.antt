@@ -1,22 +1,2 @@
--- What is proved of schemas: `Defining` of definitions and faults, `Meeting` and `First` of mismatches, `CheckZero` of Check, `Compared` of Compare.
-pub mod Trees
-pub mod Words
-pub mod Finding
-pub mod Indexes
-pub mod Filling
-pub mod Sharing
-pub mod Faults
-pub mod Defines
-pub mod Shapes
-pub mod Defining
-pub mod Judges
-pub mod Codes
-pub mod Looking
-pub mod Meeting
-pub mod Order
-pub mod First
-pub mod CheckZero
-pub mod Accepting
-pub mod Carries
-pub mod Compared
 pub mod Examples
+pub mod Facts

@@ -1,9 +1,3 @@
--- In the order of 01; then what private contracts cite.
-pub mod Located
-pub mod Mismatch
-pub mod Check
-pub mod Compare
-pub mod Names
-pub mod Walking
-pub mod Matching
-pub mod Comparing
+-- In the order of 01.
+pub mod Judging
+pub mod Checking

@@ -1,30 +1,15 @@
 // Check (01, "Three services").
-use crate::definitions::define;
 use crate::judging::judge;
-use reader::Answer;
-use reader::Limits;
+use definitions::accept;
 use reader::read_within;
+use syntax::Answer;
+use syntax::Limits;
 ghost use mathlib.Core.Path.{_≡_};
 ghost use mathlib.Core.Logic.{_↔_};
 ghost use lib.ListN.{length};
-ghost use Rattle.reader.specs.Answer.{tableOf};
-ghost use Rattle.schema.specs.Check.{readSchema, accept as acceptOf, acceptAnswer, checkAnswer, checkTable, Meeting};
-
-// Reads text number `which`, a schema, and judges whether it is a definition: code 0 where it is accepted.
-pub fn accept(which: u32, schema: &[u8], table: &mut [u32]) -> Answer
-    ensures answers { λ r. ⌜ r ≡ acceptAnswer (acceptOf which (length (now (table .entry))) (now (schema .entry))) ⌝ }
-    ensures rows { λ _. ⌜ now (table .exit) ≡ tableOf (now (table .entry)) (readSchema (now (schema .entry))) ⌝ }
-{
-    let read = read_within(Limits::schema(), which, schema, table);
-    if read.code != 0 {
-        return read;
-    }
-    let fault = define(schema, table, 0);
-    if fault.code != 0 {
-        return Answer::new(fault.code, which, fault.place, 0);
-    }
-    Answer::new(0, 0, 0, 0)
-}
+ghost use Rattle.syntax.specs.Answer.{tableOf};
+ghost use Rattle.definitions.specs.Accepting.{readSchema};
+ghost use Rattle.schema.specs.Checking.{checkAnswer, checkTable, Meeting};
 
 // Checks a document against a schema.
 pub fn check(document: &[u8], schema: &[u8], table1: &mut [u32], table2: &mut [u32]) -> Answer

@@ -1,20 +1,23 @@
 // The first mismatch of a document's value with a definition (01, "Definitions": "First misfit").
-use crate::definitions::define;
-use crate::matching::match_names;
-use crate::matching::wide;
-use crate::names::Generic;
-use crate::names::TypeName;
-use crate::names::generic_name;
-use crate::names::named_type;
-use crate::names::takes;
-use crate::rows::find;
-use crate::rows::row_at;
 use date::is_date;
+use definitions::Generic;
+use definitions::TypeName;
+use definitions::define;
+use definitions::generic_name;
+use definitions::named_type;
+use definitions::takes;
+use rows::FEW_NAMES;
+use rows::MOST_NAMES;
+use rows::find;
+use rows::match_names;
+use rows::row_at;
+use rows::wide;
 ghost use mathlib.Core.Path.{_≡_};
-ghost use Rattle.reader.specs.Holding.{word as wordOf};
-ghost use Rattle.schema.specs.Mismatch.{mismatch};
-ghost use Rattle.schema.specs.Walking.{Rowed, Judgeable, Judged, JudgedDate, ArrayJudgeable, MapJudgeable, BodyJudgeable, FieldsJudgeable, FieldsJudged};
-ghost use Rattle.schema.specs.Walking.{FieldJudgeable, FieldJudged};
+ghost use Rattle.syntax.specs.Holding.{word as wordOf};
+ghost use Rattle.schema.specs.Judging.{mismatch};
+ghost use Rattle.rows.specs.Records.{Rowed};
+ghost use Rattle.schema.specs.Judging.{Judgeable, Judged, JudgedDate, ArrayJudgeable, MapJudgeable, BodyJudgeable, FieldsJudgeable, FieldsJudged};
+ghost use Rattle.schema.specs.Judging.{FieldJudgeable, FieldJudged};
 
 // Codes 20 to 22 with the place in the document and the other in the schema; code 0 where there is none.
 pub struct Mismatch {
@@ -195,7 +198,7 @@ fn judge_object(
     }
     let required = find(schema, rows2, by + 2, b"required");
     let optional = find(schema, rows2, by + 2, b"optional");
-    if value.children < 32 {
+    if value.children < FEW_NAMES {
         let found = judge_fields(document, schema, rows1, rows2, at, required, true);
         if found.code != 0 {
             return found;
@@ -263,7 +266,7 @@ fn judge_wide(
     if !wide(row_at(rows1, at).children, names) {
         return judge_fields(document, schema, rows1, rows2, at, fields, required);
     }
-    let mut values = [0usize; 2048];
+    let mut values = [0usize; MOST_NAMES];
     match_names(document, rows1, at, schema, rows2, fields, &mut values);
     let count = names as usize;
     let mut i: usize = 0;

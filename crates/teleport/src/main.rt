@@ -56,7 +56,7 @@ fn compare() {
     };
     let mut table1 = [0u32; TABLE];
     let mut table2 = [0u32; TABLE];
-    answer(schema::compare(&new[..n], &old[..m], &mut table1, &mut table2));
+    answer(comparison::compare(&new[..n], &old[..m], &mut table1, &mut table2));
 }
 
 fn main() {

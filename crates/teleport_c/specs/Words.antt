@@ -3,7 +3,7 @@ use Prim.Native.Nat.{ℕ}
 use mathlib.Core.Path.{_≡_}
 use mathlib.Core.List.{List, [], _∷_}
 use lib.ListN.{getD}
-use Rattle.reader.specs.declared.answers.Answer.{Answer}
+use Rattle.syntax.specs.declared.answers.Answer.{Answer}
 
 abbrev pub answerWords : Answer → List ℕ
 answerWords a = a .code ∷ a .text ∷ a .place ∷ a .other ∷ []

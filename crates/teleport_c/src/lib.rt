@@ -2,15 +2,16 @@
 ghost use mathlib.Core.Path.{_≡_};
 ghost use mathlib.Core.Logic.{_↔_};
 ghost use lib.ListN.{length};
-ghost use Rattle.reader.specs.Answer.{documentLimits, readWithin, answerOf, tableOf};
-ghost use Rattle.schema.specs.Check.{readSchema, checkAnswer, checkTable, Meeting};
-ghost use Rattle.schema.specs.Compare.{Compares, compareTable};
+ghost use Rattle.syntax.specs.Answer.{documentLimits, readWithin, answerOf, tableOf};
+ghost use Rattle.definitions.specs.Accepting.{readSchema};
+ghost use Rattle.schema.specs.Checking.{checkAnswer, checkTable, Meeting};
+ghost use Rattle.comparison.specs.Comparing.{Compares, compareTable};
 ghost use Rattle.writer.specs.Compact.{compactAnswer, compactBuffer};
 ghost use Rattle.counterexample.specs.Counterexample.{Promises, tableUnlessShort};
 ghost use Rattle.teleport_c.specs.Words.{answerWords, code, Written};
 
 // The four numbers of an answer.
-fn words(a: reader::Answer) -> [u32; 4]
+fn words(a: syntax::Answer) -> [u32; 4]
     ensures { λ r. ⌜ r ≡ answerWords a ⌝ }
 {
     [a.code, a.text, a.place, a.other]
@@ -55,7 +56,7 @@ pub extern "C" fn teleport_compare(
     ensures rows1 { λ _. ⌜ now (table1 .exit) ≡ tableOf (now (table1 .entry)) (readSchema (now (new .entry))) ⌝ }
     ensures rows2 { λ _. ⌜ now (table2 .exit) ≡ compareTable (length (now (table1 .entry))) (now (table2 .entry)) (now (new .entry)) (now (old .entry)) ⌝ }
 {
-    *answer = words(schema::compare(new, old, table1, table2));
+    *answer = words(comparison::compare(new, old, table1, table2));
 }
 
 // Compact (02, L6): a text and a table, and a buffer for its one spelling.

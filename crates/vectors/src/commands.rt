@@ -116,6 +116,6 @@ fn compare(fields: &[u8]) -> bool {
     let m = second.len;
     let mut table1 = [0u32; TABLE];
     let mut table2 = [0u32; TABLE];
-    lines::answer(schema::compare(&new[..n], &old[..m], &mut table1, &mut table2));
+    lines::answer(comparison::compare(&new[..n], &old[..m], &mut table1, &mut table2));
     true
 }

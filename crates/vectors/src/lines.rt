@@ -1,6 +1,6 @@
 // The parts of an answer.
 use libc::STDOUT_FILENO;
-use reader::Answer;
+use syntax::Answer;
 
 // 01: "the four numbers in decimal on one line, a space between".
 pub fn answer(a: Answer) {

@@ -7,13 +7,13 @@ use lib.ListN.{length, length-append, length-drop}
 use lib.Dec.{leb}
 use borrow.Author.Tests.{leb-true, le-leb, lt-leb}
 use Rattle.model.proofs.Basics.{both, by-test}
-use Rattle.chars.specs.Parse.{Parse, refused, parsed}
-use Rattle.reader.specs.Tree.{Node}
-use Rattle.reader.specs.Rows.{size}
-use Rattle.reader.specs.Answer.{documentLimits, readWithin, answer, rowsIn, answerOf}
-use Rattle.reader.specs.declared.answers.Answer.{Answer}
-use Rattle.reader.specs.Spelling.{valueOf}
-use Rattle.reader.proofs.Theorems.{read-code, read-short}
+use Rattle.tokens.specs.Parse.{Parse, refused, parsed}
+use Rattle.syntax.specs.Tree.{Node}
+use Rattle.syntax.specs.Rows.{size}
+use Rattle.syntax.specs.Answer.{documentLimits, readWithin, answer, rowsIn, answerOf}
+use Rattle.syntax.specs.declared.answers.Answer.{Answer}
+use Rattle.syntax.specs.Spelling.{valueOf}
+use Rattle.syntax.proofs.Theorems.{read-code, read-short}
 use Rattle.grammar.proofs.Theorems.{reads-written}
 use Rattle.writer.specs.Compact.{spelled, over, writtenAnswer, writtenBuffer, answerBy, bufferBy, compactAnswer, compactBuffer}
 use Rattle.writer.specs.Tokens.{Tokens}

@@ -5,8 +5,8 @@ use mathlib.Core.Logic.{inl, inr}
 use mathlib.Core.List.{List, [], _∷_}
 use native.Mathlib.Omega.{arith}
 use Rattle.model.specs.Value.{Value, null, boolean, number, string, array, object}
-use Rattle.grammar.specs.Written.{Language, IsSeries, one, more, IsBracketed, empty, series, values, IsArray, is-array}
-use Rattle.grammar.specs.Written.{Member, IsMember, is-member, members, IsObject, is-object, IsLeaf, IsValue, IsJsonText, is-text}
+use Rattle.grammar.specs.Written.{Language, IsSeries, one, more, IsBracketed, empty, series, values, IsArray, is-array, Member, IsMember}
+use Rattle.grammar.specs.Written.{is-member, members, IsObject, is-object, IsLeaf, IsValue, IsJsonText, is-text}
 use Rattle.writer.specs.Depth.{depthOf, depthOfAll, depthOfMembers}
 
 -- ---- what stands in brackets: all items have a property that each has

@@ -2,12 +2,12 @@
 use Prim.Native.Nat.{ℕ, suc, _+_}
 use mathlib.Core.Path.{_≡_, refl, sym, ap, ap₂, _∙_}
 use mathlib.Core.List.{List}
-use Rattle.model.specs.Value.{Value, null, boolean, number, string, Values, vnil, vcons, mnil, mcons}
-use Rattle.model.specs.Value.{array as list, object as record-of, Members as ValueMembers}
-use Rattle.chars.specs.Tokens.{Kind, Null, False, True, Whole, Fractional, Quoted}
-use Rattle.reader.specs.Tree.{Node, scalar, array, object, Nodes, none, more, Members, no-member, member}
-use Rattle.reader.specs.Rows.{size, sizes, sizesMembers}
-use Rattle.reader.specs.Spelling.{scalarOf, valueOf, valuesOf, membersOf}
+use Rattle.model.specs.Value.{Value, null, boolean, number, string, Values, vnil, vcons, mnil, mcons, array as list, object as record-of}
+use Rattle.model.specs.Value.{Members as ValueMembers}
+use Rattle.tokens.specs.Tokens.{Kind, Null, False, True, Whole, Fractional, Quoted}
+use Rattle.syntax.specs.Tree.{Node, scalar, array, object, Nodes, none, more, Members, no-member, member}
+use Rattle.syntax.specs.Rows.{size, sizes, sizesMembers}
+use Rattle.syntax.specs.Spelling.{scalarOf, valueOf, valuesOf, membersOf}
 
 -- "One row for each value and each member name" (01, "Rows"), of a value
 abbrev mutual

@@ -6,10 +6,10 @@ use mathlib.Core.Bool.{true, false}
 use mathlib.Core.List.{List, [], _∷_, _++_, append-nil, append-assoc}
 use native.Mathlib.Omega.{arith}
 use Rattle.model.specs.Text.{isText}
-use Rattle.model.specs.Value.{Value, null, boolean, number, string, array, object, Values, vnil, vcons, Members, mnil, mcons}
-use Rattle.model.specs.Value.{IsJson, AreJson, AreMembers}
-use Rattle.grammar.specs.Written.{IsStructural, structural, IsSeries, one, more, IsBracketed, empty, series, values, IsArray, is-array}
-use Rattle.grammar.specs.Written.{Member, IsMember, is-member, members, Differ, IsObject, is-object, IsLeaf, IsValue, IsJsonText, is-text}
+use Rattle.model.specs.Value.{Value, null, boolean, number, string, array, object, Values, vnil, vcons, Members, mnil, mcons, IsJson, AreJson}
+use Rattle.model.specs.Value.{AreMembers}
+use Rattle.grammar.specs.Written.{IsStructural, structural, IsSeries, one, more, IsBracketed, empty, series, values, IsArray, is-array, Member}
+use Rattle.grammar.specs.Written.{IsMember, is-member, members, Differ, IsObject, is-object, IsLeaf, IsValue, IsJsonText, is-text}
 use Rattle.writer.specs.Spell.{spell, spellString, spellValues, beforeValues, spellMembers, beforeMembers}
 use Rattle.writer.specs.Depth.{depthOf, depthOfAll, depthOfMembers}
 use Rattle.writer.proofs.StringSpelled.{string-spelled}

@@ -15,11 +15,12 @@ use Rattle.chars.specs.declared.characters.Step.the-variants.{Char, Quote, Refu
 use Rattle.chars.specs.declared.strings.Scan.the-variants.{Ends}
 use Rattle.chars.specs.Bytes.{byteAt}
 use Rattle.chars.specs.Characters.{charAt}
-use Rattle.chars.specs.Space.{run}
+use Rattle.chars.specs.Runs.{run}
 use Rattle.chars.specs.Strings.{stringAt, charsAt, part, spell}
-use Rattle.chars.specs.Spelling.{IsQuoted}
-use Rattle.chars.proofs.Facts.{run-next, run-stop, run-from, char-next, string-char, string-quote, string-stop, string-bounds, string-close, chars-step, chars-char}
-use Rattle.chars.proofs.Pieces.{part-none, part-cons, part-join}
+use Rattle.tokens.specs.Spelling.{IsQuoted}
+use Rattle.chars.proofs.Facts.{run-next, run-stop, run-from, char-next, string-char, string-quote, string-stop, string-bounds, string-close}
+use Rattle.chars.proofs.Facts.{chars-step, chars-char}
+use Rattle.tokens.proofs.Facts.{part-none, part-cons, part-join}
 use Rattle.grammar.proofs.Pieces.{At}
 use Rattle.writer.specs.Spell.{spellChars}
 use Rattle.writer.specs.Runs.{isOrdinary, ordinaryEnd}

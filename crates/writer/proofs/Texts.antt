@@ -9,20 +9,20 @@ use lib.ListN.{length, length-append}
 use lib.Dec.{eqb, ltb}
 use borrow.Author.Tests.{ltb-true, lt-ltb, ne-eqb}
 use Rattle.model.specs.Text.{text, all}
-use Rattle.model.specs.Value.{Value, null, boolean, number, string, array, object}
-use Rattle.model.specs.Value.{isDigit, IsNumber}
+use Rattle.model.specs.Value.{Value, null, boolean, number, string, array, object, isDigit, IsNumber}
 use Rattle.model.proofs.Basics.{and-ways}
 use Rattle.chars.specs.Bytes.{byteAt}
-use Rattle.chars.specs.Parse.{parsed}
-use Rattle.chars.specs.Space.{isSpace}
+use Rattle.tokens.specs.Parse.{parsed}
+use Rattle.tokens.specs.Space.{isSpace}
 use Rattle.chars.specs.Strings.{charsAt}
-use Rattle.chars.specs.Spelling.{IsQuoted}
-use Rattle.chars.proofs.Facts.{quoted-bounds, quoted-characters}
-use Rattle.reader.specs.Tree.{Node}
-use Rattle.reader.specs.Grammar.{readText}
-use Rattle.reader.specs.Spelling.{valueOf}
+use Rattle.tokens.specs.Spelling.{IsQuoted}
+use Rattle.tokens.proofs.Facts.{quoted-bounds, quoted-characters}
+use Rattle.syntax.specs.Tree.{Node}
+use Rattle.syntax.specs.Grammar.{readText}
+use Rattle.syntax.specs.Spelling.{valueOf}
 use Rattle.grammar.specs.Written.{Language, IsSpace, IsStructural, structural, IsString, IsSeries, one, more, IsBracketed, empty, series}
-use Rattle.grammar.specs.Written.{values, IsArray, is-array, Member, IsMember, is-member, members, IsObject, is-object, IsLeaf, IsValue, IsJsonText, is-text}
+use Rattle.grammar.specs.Written.{values, IsArray, is-array, Member, IsMember, is-member, members, IsObject, is-object, IsLeaf, IsValue}
+use Rattle.grammar.specs.Written.{IsJsonText, is-text}
 use Rattle.grammar.proofs.Pieces.{At, at-first, at-second, at-behind}
 use Rattle.grammar.proofs.Strings.{string-reads}
 use Rattle.grammar.proofs.Numbers.{digit-bounds}

@@ -7,13 +7,13 @@ use native.Mathlib.Omega.{arith}
 use lib.ListN.{length, take}
 use lib.Seq.{take-append-seam, drop-append-seam}
 use Rattle.model.specs.Value.{Value, IsJson}
-use Rattle.chars.specs.Parse.{parsed}
-use Rattle.reader.specs.Tree.{Node}
-use Rattle.reader.specs.Grammar.{readText}
-use Rattle.reader.specs.Spelling.{valueOf}
-use Rattle.reader.specs.Rows.{size}
-use Rattle.reader.specs.Answer.{documentLimits, readWithin, answer}
-use Rattle.reader.proofs.Theorems.{read-json, read-short}
+use Rattle.tokens.specs.Parse.{parsed}
+use Rattle.syntax.specs.Tree.{Node}
+use Rattle.syntax.specs.Grammar.{readText}
+use Rattle.syntax.specs.Spelling.{valueOf}
+use Rattle.syntax.specs.Rows.{size}
+use Rattle.syntax.specs.Answer.{documentLimits, readWithin, answer}
+use Rattle.syntax.proofs.Theorems.{read-json, read-short}
 use Rattle.grammar.specs.Written.{IsJsonText}
 use Rattle.grammar.proofs.Theorems.{reads-written, written-reads, written-one}
 use Rattle.writer.specs.Spell.{spell}

@@ -9,11 +9,11 @@ use lib.Dec.{eqb}
 use borrow.Author.Tests.{eqb-true, eqb-false}
 use Rattle.model.proofs.Basics.{by-test, clash, or-false}
 use Rattle.chars.specs.Bytes.{byteAt}
-use Rattle.chars.specs.Space.{isSpace, skip}
+use Rattle.tokens.specs.Space.{isSpace, skip}
 use Rattle.chars.specs.Strings.{part}
-use Rattle.chars.specs.Spelling.{IsQuoted}
-use Rattle.chars.proofs.Facts.{in-text, run-end, run-next, run-stop, run-from, run-within, quoted-bounds}
-use Rattle.chars.proofs.Pieces.{part-none, part-one, part-cons}
+use Rattle.tokens.specs.Spelling.{IsQuoted}
+use Rattle.chars.proofs.Facts.{in-text, run-end, run-next, run-stop, run-from, run-within}
+use Rattle.tokens.proofs.Facts.{quoted-bounds, part-none, part-one, part-cons}
 use Rattle.writer.specs.Runs.{isStructural, isAtom, atomEnd}
 use Rattle.writer.specs.Tokens.{endOf, stringEnd, stringBytes, tokenEnd, tokenBytes, Tokens, ended, space, quoted, copied}
 

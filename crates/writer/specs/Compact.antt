@@ -4,12 +4,12 @@ use mathlib.Core.Bool.{cond}
 use mathlib.Core.List.{List, _++_}
 use lib.ListN.{length, drop}
 use lib.Dec.{leb}
-use Rattle.chars.specs.Parse.{Parse, refused, parsed}
-use Rattle.reader.specs.Tree.{Node}
-use Rattle.reader.specs.Rows.{size}
-use Rattle.reader.specs.Spelling.{valueOf}
-use Rattle.reader.specs.Answer.{documentLimits, readWithin, answer, rowsIn, answerOf}
-use Rattle.reader.specs.declared.answers.Answer.{Answer}
+use Rattle.tokens.specs.Parse.{Parse, refused, parsed}
+use Rattle.syntax.specs.Tree.{Node}
+use Rattle.syntax.specs.Rows.{size}
+use Rattle.syntax.specs.Spelling.{valueOf}
+use Rattle.syntax.specs.Answer.{documentLimits, readWithin, answer, rowsIn, answerOf}
+use Rattle.syntax.specs.declared.answers.Answer.{Answer}
 use Rattle.writer.specs.Spell.{spell}
 
 -- what is written for the text s whose tree is n: the spelling of the value that s stands for

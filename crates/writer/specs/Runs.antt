@@ -3,7 +3,8 @@ use Prim.Native.Nat.{ℕ}
 use mathlib.Core.Bool.{Bool, not, _||_}
 use mathlib.Core.List.{List}
 use lib.Dec.{eqb}
-use Rattle.chars.specs.Space.{isSpace, run}
+use Rattle.tokens.specs.Space.{isSpace}
+use Rattle.chars.specs.Runs.{run}
 
 -- a byte of a string that neither ends it nor begins an escape
 unfoldable pub isOrdinary : ℕ → Bool

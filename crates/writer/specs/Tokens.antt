@@ -11,10 +11,10 @@ use Rattle.chars.specs.declared.strings.Scan.{Scan}
 use Rattle.chars.specs.declared.strings.Scan.the-variants.{Ends, Stopped}
 use Rattle.chars.specs.Bytes.{byteAt}
 use Rattle.chars.specs.Characters.{charAt}
-use Rattle.chars.specs.Space.{isSpace}
+use Rattle.tokens.specs.Space.{isSpace}
 use Rattle.chars.specs.Strings.{stringAt, charsAt, part}
-use Rattle.chars.specs.Spelling.{IsQuoted}
-use Rattle.reader.specs.declared.answers.Answer.{Answer}
+use Rattle.tokens.specs.Spelling.{IsQuoted}
+use Rattle.syntax.specs.declared.answers.Answer.{Answer}
 use Rattle.writer.specs.Spell.{spellChar, spellString}
 use Rattle.writer.specs.Compact.{over, writtenAnswer, writtenBuffer}
 use Rattle.writer.specs.Runs.{ordinaryEnd, isStructural, atomEnd}

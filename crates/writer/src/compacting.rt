@@ -1,12 +1,12 @@
 // Compact (02, L6): writes the one spelling of the value that a text stands for.
 use crate::writing::measure;
 use crate::writing::write;
-use reader::Answer;
 use reader::read;
+use syntax::Answer;
 ghost use mathlib.Core.Path.{_≡_};
 ghost use Prim.Native.Nat.{_≤_};
 ghost use lib.ListN.{length};
-ghost use Rattle.reader.specs.Answer.{documentLimits, readWithin, tableOf};
+ghost use Rattle.syntax.specs.Answer.{documentLimits, readWithin, tableOf};
 ghost use Rattle.writer.specs.Compact.{compactAnswer, compactBuffer};
 ghost use Rattle.writer.specs.Tokens.{Writable, Answers};
 

@@ -11,7 +11,7 @@ use chars::peek;
 ghost use mathlib.Core.Path.{_≡_};
 ghost use Prim.Native.Nat.{_≤_};
 ghost use lib.ListN.{length};
-ghost use Rattle.chars.specs.Spelling.{IsQuoted};
+ghost use Rattle.tokens.specs.Spelling.{IsQuoted};
 ghost use Rattle.writer.specs.Compact.{over};
 ghost use Rattle.writer.specs.Tokens.{stretchEnd, stretchBytes, stringEnd, stringBytes, tokenEnd, tokenBytes, piece, TokenReady};
 

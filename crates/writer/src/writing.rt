@@ -1,7 +1,7 @@
 // The tokens of a text that was read, one after the other.
 use crate::pieces::measure_string;
 use crate::pieces::write_token;
-use chars::skip;
+use tokens::skip;
 ghost use lib.ListN.{length};
 ghost use Rattle.writer.specs.Tokens.{Writable, Measures, Writes};
 

@@ -15,7 +15,7 @@ use Rattle.chars.specs.declared.characters.Step.the-variants.{Char, Quot
 use Rattle.chars.specs.declared.characters.Hex.{Hex}
 use Rattle.chars.specs.declared.characters.Hex.the-variants.{Pair, Bad}
 use Rattle.chars.specs.Bytes.{byteAt, from-to, codeOf, digit, named, lowest, highest, sixBits}
-use Rattle.chars.specs.Characters.{stopAt, wrongAt, hexPair, withPair, joined, partnerAt, restAt, unicodeAt, escapeAt, twoAt, threeAt, fourAt, charFrom, charAt}
+use Rattle.chars.specs.Characters.{stopAt, wrongAt, hexPair, withPair, pairValue, partnerAt, restAt, unicodeAt, escapeAt, twoAt, threeAt, fourAt, charFrom, charAt}
 use Rattle.chars.proofs.bytes.Laws.{both, and-ways, outside, in-text, code-bound, digit-in, six-ways, lowest-of, highest-of, named-small}
 
 -- a Unicode scalar value: at most 10FFFF, and no surrogate
@@ -72,7 +72,7 @@ module _ (s : List ℕ) where
       (λ _. both (Ahead s i) (from-to 12 15 (digit (byteAt s (j + 3))))
       (λ t. and-ways (leb 12 (digit (byteAt s (j + 3)))) (leb (digit (byteAt s (j + 3))) 15) t
       (λ x y. let x₂ : 12 ≤ digit (byteAt s (j + 3)) = leb-true _ _ x in let y₂ : digit (byteAt s (j + 3)) ≤ 15 = leb-true _ _ y in
-      with-ahead i (j + 4) (λ l. Char (joined high (256 * (0xD0 + digit (byteAt s (j + 3))) + l)) (j + 6)) (hexPair s (j + 4)) (hex-ahead (j + 4))
+      with-ahead i (j + 4) (λ l. Char (pairValue high (256 * (0xD0 + digit (byteAt s (j + 3))) + l)) (j + 6)) (hexPair s (j + 4)) (hex-ahead (j + 4))
       (λ v m w. (omega arith, omega arith, (omega arith, λ g. omega arith)))))
       (λ _. stop-ahead i (j + 3) 5 (omega arith)))
       (λ _. stop-ahead i (j + 2) 5 (omega arith)))

@@ -9,7 +9,7 @@ use lib.Dec.{leb, ltb, eqb}
 use borrow.Author.Tests.{leb-true, le-leb, le-ltb, lt-ltb, ne-eqb, not-true}
 use Rattle.chars.specs.declared.characters.Step.the-variants.{Char, Quote}
 use Rattle.chars.specs.Bytes.{byteAt}
-use Rattle.chars.specs.Space.{runFrom, run}
+use Rattle.chars.specs.Runs.{runFrom, run}
 use Rattle.chars.specs.Characters.{charFrom, charAt}
 use Rattle.chars.specs.Strings.{stringAt, characters}
 use Rattle.chars.specs.Plain.{isPlain, plainEnd}

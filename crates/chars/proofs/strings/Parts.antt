@@ -14,7 +14,7 @@ use Rattle.chars.specs.declared.characters.Hex.{Hex}
 use Rattle.chars.specs.declared.characters.Hex.the-variants.{Pair, Bad}
 use Rattle.chars.specs.declared.strings.Scan.the-variants.{Ends, Stopped}
 use Rattle.chars.specs.Bytes.{byteAt, from-to, codeOf, digit, named, lowest, highest, sixBits}
-use Rattle.chars.specs.Characters.{stopAt, wrongAt, hexPair, withPair, joined, partnerAt, restAt, unicodeAt, escapeAt, twoAt, threeAt, fourAt, charFrom, charAt}
+use Rattle.chars.specs.Characters.{stopAt, wrongAt, hexPair, withPair, pairValue, partnerAt, restAt, unicodeAt, escapeAt, twoAt, threeAt, fourAt, charFrom, charAt}
 use Rattle.chars.specs.Strings.{stringAt, charsAt, characters, part, spell}
 use Rattle.chars.proofs.bytes.Laws.{both, and-ways, outside}
 use Rattle.chars.proofs.characters.Laws.{Ahead, HexAhead, hex-ahead, partner-ahead, rest-ahead, unicode-ahead, char-ahead, char-end}
@@ -67,7 +67,7 @@ module _ (s t : List ℕ) (d c : ℕ) (agree : (y x : ℕ) → x ≡ y + d → x
       (λ t₁. both P (eqb (byteAt s (x + 1)) 0x75)
       (λ t₂. both P (eqb (digit (byteAt s (x + 2))) 13)
       (λ t₃. both P (from-to 12 15 (digit (byteAt s (x + 3))))
-      (λ t₄. with-ways P s (λ l. Char (joined high (256 * (0xD0 + digit (byteAt s (x + 3))) + l)) (x + 6)) (hexPair s (x + 4))
+      (λ t₄. with-ways P s (λ l. Char (pairValue high (256 * (0xD0 + digit (byteAt s (x + 3))) + l)) (x + 6)) (hexPair s (x + 4))
       (λ l e g. let n : y + 6 ≡ x + 6 - d = omega arith in
       rw (
         agree y x q (omega arith),

@@ -11,7 +11,7 @@ use borrow.Author.Tests.{lt-ltb, le-ltb, le-leb, ne-eqb}
 use Rattle.chars.specs.Bytes.{byteAt, lowest, highest, sixBits}
 use Rattle.chars.specs.Characters.{stopAt, twoAt, threeAt, fourAt, charFrom, charAt}
 use Rattle.chars.specs.Strings.{stringAt}
-use Rattle.chars.specs.Plain.{WideStep}
+use Rattle.chars.specs.Wide.{WideStep}
 use Rattle.chars.proofs.strings.Laws.{char-next, string-char}
 
 module _ (s : List ℕ) (i b : ℕ) where

@@ -13,16 +13,15 @@ use Rattle.model.specs.Subtype.{subtype}
 use Rattle.model.specs.Witness.{witness}
 use Rattle.model.proofs.Basics.{by-test}
 use Rattle.model.proofs.Theorem.{subtype-true}
-use Rattle.reader.specs.Answer.{schemaLimits, answer, tableOf}
-use Rattle.reader.specs.declared.answers.Answer.{Answer}
+use Rattle.syntax.specs.Answer.{schemaLimits, answer, tableOf}
+use Rattle.syntax.specs.declared.answers.Answer.{Answer}
 use Rattle.writer.specs.Spell.{spell}
-use Rattle.schema.specs.Located.{Located, plain}
-use Rattle.schema.specs.Check.{readSchema, Accepted, not-accepted, accepted, accept}
-use Rattle.schema.specs.Compare.{Schema, Answers, Compares, compareTable}
-use Rattle.schema.specs.Comparing.{DefinedRow, Pairing}
-use Rattle.schema.proofs.Defining.{defined-plain}
-use Rattle.schema.proofs.CheckZero.{Takes, Way, accept-way}
-use Rattle.schema.proofs.Accepting.{HasRead, has-rows}
+use Rattle.definitions.specs.Definitions.{Located, bare}
+use Rattle.definitions.specs.Accepting.{readSchema, Accepted, not-accepted, accepted, accept}
+use Rattle.comparison.specs.Comparing.{Schema, Answers, Compares, compareTable}
+use Rattle.definitions.specs.Shapes.{DefinedRow}
+use Rattle.comparison.specs.Carrying.{Pairing}
+use Rattle.definitions.proofs.Facts.{defined-plain, Takes, Way, accept-way, HasRead, has-rows}
 use Rattle.counterexample.specs.Counterexample.{Shows, exampleAnswer, exampleBuffer, Promises, tableUnlessShort}
 use Rattle.samples.specs.Writing.{Writes}
 use Rattle.counterexample.specs.Writing.{WitnessReady, WitnessWritten}
@@ -32,7 +31,7 @@ use Rattle.counterexample.proofs.Confirming.{shows}
 -- ---- one schema that is accepted
 
 -- the value that it spells has its definition
-as-schema : {w : ℕ} {s : List ℕ} {e : Located} → Takes w s e → Schema w s (plain e)
+as-schema : {w : ℕ} {s : List ℕ} {e : Located} → Takes w s e → Schema w s (bare e)
 as-schema {s = s} {e = e} h = record { tree = h .tree; read = h .read; defines = defined-plain s (h .tree) e (h .defines) }
 
 -- its table holds it
@@ -54,7 +53,7 @@ record Apart (w₁ w₂ : ℕ) (s₁ s₂ : List ℕ) (r : Answer) : Type 0 wher
   accepts : accept 1 w₁ s₁ ≡ accepted new
   takes-new : Takes w₁ s₁ new
   takes-old : Takes w₂ s₂ old
-  differs : subtype (plain new) (plain old) ≡ false
+  differs : subtype (bare new) (bare old) ≡ false
 
 -- a refusal has another code
 apart : {w₁ w₂ : ℕ} {s₁ s₂ : List ℕ} {r : Answer} → Compares w₁ w₂ s₁ s₂ r → r .code ≡ 30 → Apart w₁ w₂ s₁ s₂ r
@@ -64,7 +63,7 @@ apart {w₁} {w₂} {s₁} {s₂} {r} h z = go (accept 1 w₁ s₁) (accept 2 w�
     go (not-accepted a) y i f g k = absurd (omega (arith, f .0, ap (λ (b : Answer). b .code) k))
     go (accepted d) (not-accepted a) i f g k = absurd (omega (arith, g .0, ap (λ (b : Answer). b .code) k))
     go (accepted d) (accepted e) i f g (inl k) = absurd (omega (arith, ap (λ (b : Answer). b .code) (k .0)))
-    go (accepted d) (accepted e) i f g (inr k) = record { is = k .0; new = d; old = e; accepts = i; takes-new = f .0; takes-old = g .0; differs = not-subtype (plain d) (plain e) (k .1) }
+    go (accepted d) (accepted e) i f g (inr k) = record { is = k .0; new = d; old = e; accepts = i; takes-new = f .0; takes-old = g .0; differs = not-subtype (bare d) (bare e) (k .1) }
 
 -- ---- the promise
 
@@ -109,10 +108,10 @@ module _ {s₁ s₂ t₁ t₂ buffer : List ℕ} {c : Answer} {u₁ u₂ : List 
 
     -- the document
     abbrev shown : List ℕ
-    shown = spell (witness (plain (both .new)) (plain (both .old)))
+    shown = spell (witness (bare (both .new)) (bare (both .old)))
 
     shown-fits : length shown ≤ 65536
-    shown-fits = fits s₁ s₂ (plain (both .new)) (plain (both .old)) (as-schema (both .takes-new)) (as-schema (both .takes-old))
+    shown-fits = fits s₁ s₂ (bare (both .new)) (bare (both .old)) (as-schema (both .takes-new)) (as-schema (both .takes-old))
 
     -- the old schema was reached
     old-rows : u₂ ≡ tableOf t₂ (readSchema s₂)
@@ -137,5 +136,5 @@ module _ {s₁ s₂ t₁ t₂ buffer : List ℕ} {c : Answer} {u₁ u₂ : List 
 
       pub as-shown : {r : Answer} → r ≡ answer 30 0 0 n → Promised s₁ s₂ t₁ t₂ buffer r u₁ u₂ buffer₂
       as-shown e =
-          promised shown (λ _. shows s₁ s₂ (plain (both .new)) (plain (both .old)) (as-schema (both .takes-new)) (as-schema (both .takes-old)) (both .differs))
+          promised shown (λ _. shows s₁ s₂ (bare (both .new)) (bare (both .old)) (as-schema (both .takes-new)) (as-schema (both .takes-old)) (both .differs))
           (e ∙ ap (answer 30 0 0) (written .0) ∙ sym (ap (λ (c : Answer). exampleAnswer c shown) (both .is))) (rw (eq-eqb (c .code) 30 z) (written .1))

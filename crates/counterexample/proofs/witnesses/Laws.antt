@@ -13,24 +13,26 @@ use Rattle.model.specs.Value.{Value, null, array, object, vnil, vcons, mnil, mc
 use Rattle.model.specs.Definition.{JSON, Def, named, array-of, map-of}
 use Rattle.model.specs.Subtype.{under}
 use Rattle.model.specs.Witness.{sample, others, beyondNamed, witness}
-use Rattle.reader.specs.Grammar.{nameOf}
-use Rattle.reader.specs.Holding.{word}
+use Rattle.syntax.specs.Grammar.{nameOf}
+use Rattle.syntax.specs.Holding.{word}
 use Rattle.grammar.specs.Utf8.{utf8}
 use Rattle.writer.specs.Spell.{spell, spellString, spellChar}
 use Rattle.writer.proofs.Over.{Wrote}
-use Rattle.schema.specs.Located.{Located, named-at, array-at, map-at, object-at, plain, plainFields}
-use Rattle.schema.specs.Comparing.{DefinedRow, genericIn, GenericRow, definitionUnder, Gives, FindsUnder, Pairing, PairingTo, FieldPairing, Fails}
-use Rattle.schema.specs.Walking.{Reads}
-use Rattle.schema.specs.declared.rows.Record.{Record}
-use Rattle.schema.specs.declared.names.Generic.{Generic}
-use Rattle.schema.specs.declared.names.Generic.the-variants.{Array, Map, Object, Other}
-use Rattle.schema.proofs.names.Generic.{the-type}
-use Rattle.schema.proofs.Shapes.{in-name, in-array, in-map, in-object}
-use Rattle.schema.proofs.Carries.{orDef, same-definition, of-kind, array-less, array-pair, map-less, map-pair}
-use Rattle.samples.specs.Writing.{Writes, nameBytes, further, SampleReady, SampleWritten, OthersReady, OthersWritten, BeyondReady, BeyondWritten}
-use Rattle.counterexample.specs.Writing.{failing, failingValue, FailingName, WitnessReady, WitnessTo, WitnessWritten, MemberReady, MemberWritten}
-use Rattle.samples.specs.Writing.{NameReady, NameWritten}
-use Rattle.counterexample.specs.Writing.{UnderReady, UnderWritten}
+use Rattle.definitions.specs.Definitions.{Located, named-at, array-at, map-at, object-at, bare, bareFields}
+use Rattle.definitions.specs.Shapes.{DefinedRow, genericIn, GenericRow}
+use Rattle.comparison.specs.Fields.{definitionUnder, Gives, FindsUnder}
+use Rattle.comparison.specs.Carrying.{Pairing, PairingTo, FieldPairing, Fails}
+use Rattle.rows.specs.Records.{Reads}
+use Rattle.rows.specs.declared.records.Record.{Record}
+use Rattle.definitions.specs.declared.types.Generic.{Generic}
+use Rattle.definitions.specs.declared.types.Generic.the-variants.{Array, Map, Object, Other}
+use Rattle.definitions.proofs.types.Generic.{the-type}
+use Rattle.definitions.proofs.Facts.{in-name, in-array, in-map, in-object, same-definition}
+use Rattle.comparison.proofs.Facts.{orDef, of-kind, array-less, array-pair, map-less, map-pair}
+use Rattle.samples.specs.Writing.{Writes, nameBytes, further, SampleReady, SampleWritten, OthersReady, OthersWritten, BeyondReady}
+use Rattle.samples.specs.Writing.{BeyondWritten, NameReady, NameWritten}
+use Rattle.counterexample.specs.Writing.{failing, failingValue, FailingName, WitnessReady, WitnessTo, WitnessWritten, MemberReady}
+use Rattle.counterexample.specs.Writing.{MemberWritten, UnderReady, UnderWritten}
 use Rattle.samples.proofs.Lent.{leftOf, putBack, wrote, Lent, lent, lent-more, lent-last}
 use Rattle.counterexample.proofs.Failing.{shown, witness-object, witness-json, under-found}
 
@@ -38,10 +40,10 @@ use Rattle.counterexample.proofs.Failing.{shown, witness-object, witnes
 
 module _ {s₁ s₂ t₁ t₂ : List ℕ} {r₁ r₂ : ℕ} where
   abbrev pub newOf : Pairing s₁ s₂ t₁ t₂ r₁ r₂ → Def
-  newOf p = plain (p .new .definition)
+  newOf p = bare (p .new .definition)
 
   abbrev pub oldOf : Pairing s₁ s₂ t₁ t₂ r₁ r₂ → Def
-  oldOf p = plain (p .old .definition)
+  oldOf p = bare (p .old .definition)
 
   abbrev pub witnessOf : Pairing s₁ s₂ t₁ t₂ r₁ r₂ → Value
   witnessOf p = witness (newOf p) (oldOf p)
@@ -130,9 +132,9 @@ module _ {s₁ s₂ t₁ t₂ : List ℕ} {r₁ r₂ room : ℕ} {g : Generic} (
   pub array-sample : OneOf (1 ∷ 2 ∷ 3 ∷ []) (tagOf the-type g) → witnessOf array-given ≡ sample (newOf array-given)
   array-sample o =
       let q = in-array (array-given .old) (i .is .tells (array-given .old)) in
-      rw (q .is) (go (plain (q .inner .definition)) (array-given .new .definition) (λ e. not-array g o (e ∙ sym (h .tells (array-given .new)))))
+      rw (q .is) (go (bare (q .inner .definition)) (array-given .new .definition) (λ e. not-array g o (e ∙ sym (h .tells (array-given .new)))))
     where
-      go : (q : Def) (x : Located) → (Array ≡ genericIn x → ⊥) → witness (plain x) (array-of q) ≡ sample (plain x)
+      go : (q : Def) (x : Located) → (Array ≡ genericIn x → ⊥) → witness (bare x) (array-of q) ≡ sample (bare x)
       go q (named-at p t) n = refl
       go q (array-at p d) n = absurd (n refl)
       go q (map-at p d) n = refl
@@ -175,9 +177,9 @@ module _ {s₁ s₂ t₁ t₂ : List ℕ} {r₁ r₂ room : ℕ} {g : Generic} (
       let n = not-objects g o in
       let k = h .tells (map-given .new) in
       let q = in-map (map-given .old) (i .is .tells (map-given .old)) in
-      rw (q .is) (go (plain (q .inner .definition)) (map-given .new .definition) (λ e. n .0 (e ∙ sym k)) (λ e. n .1 (e ∙ sym k)))
+      rw (q .is) (go (bare (q .inner .definition)) (map-given .new .definition) (λ e. n .0 (e ∙ sym k)) (λ e. n .1 (e ∙ sym k)))
     where
-      go : (q : Def) (x : Located) → (Map ≡ genericIn x → ⊥) → (Object ≡ genericIn x → ⊥) → witness (plain x) (map-of q) ≡ sample (plain x)
+      go : (q : Def) (x : Located) → (Map ≡ genericIn x → ⊥) → (Object ≡ genericIn x → ⊥) → witness (bare x) (map-of q) ≡ sample (bare x)
       go q (named-at p t) m n = refl
       go q (array-at p d) m n = refl
       go q (map-at p d) m n = absurd (m refl)
@@ -185,7 +187,7 @@ module _ {s₁ s₂ t₁ t₂ : List ℕ} {r₁ r₂ room : ℕ} {g : Generic} (
 
   pub map-beyond : g ≡ Object → witnessOf map-given ≡ beyondNamed (newOf map-given)
   map-beyond e =
-      let q = plain (in-map (map-given .old) (i .is .tells (map-given .old)) .inner .definition) in
+      let q = bare (in-map (map-given .old) (i .is .tells (map-given .old)) .inner .definition) in
       rw (in-map (map-given .old) (i .is .tells (map-given .old)) .is, in-object (map-given .new) (of-kind h e (map-given .new)) .is, witness-json q)
 
   -- both are: the value's witness under the name "a"
@@ -209,7 +211,7 @@ module _ {s₁ s₂ t₁ t₂ : List ℕ} {r₁ r₂ room v : ℕ} (i : WitnessT
   object-value : witnessOf object-given ≡ shown (newOf object-given) (failing (newOf object-given) (oldOf object-given))
   object-value =
       let o = in-object (object-given .old) (i .is .tells (object-given .old)) in
-      rw (o .is) (witness-object (newOf object-given) (plainFields (o .required)) (plainFields (o .optional)))
+      rw (o .is) (witness-object (newOf object-given) (bareFields (o .required)) (bareFields (o .optional)))
 
   pub object-sample : v ≡ 0 → witnessOf object-given ≡ sample (newOf object-given)
   object-sample z = object-value ∙ go (failing (newOf object-given) (oldOf object-given)) (f .tells object-given)
@@ -222,7 +224,7 @@ module _ {s₁ s₂ t₁ t₂ : List ℕ} {r₁ r₂ room v : ℕ} (i : WitnessT
   pub record Field : Type 0 where
     pub pair : FieldPairing s₁ s₂ t₁ t₂ r₁ v
     pub less : word t₂ (v + 1) 4 < word t₂ r₂ 4
-    pub value : witnessOf object-given ≡ failingValue (plain (pair .new .definition)) (nameOf s₂ (word t₂ v 1) (word t₂ v 2)) (plain (pair .old .definition))
+    pub value : witnessOf object-given ≡ failingValue (bare (pair .new .definition)) (nameOf s₂ (word t₂ v 1) (word t₂ v 2)) (bare (pair .old .definition))
 
   pub field : (v ≡ 0 → ⊥) → Field
   field nz = go (failing (newOf object-given) (oldOf object-given)) object-value (f .tells object-given)
@@ -256,10 +258,10 @@ module _ {s₁ s₂ t₁ t₂ : List ℕ} {r₁ r₂ : ℕ} where
   nameIn p = nameOf s₂ (word t₂ r₂ 1) (word t₂ r₂ 2)
 
   abbrev underOf : FieldPairing s₁ s₂ t₁ t₂ r₁ r₂ → Value
-  underOf p = witness (under (plain (p .new .definition)) (nameIn p)) (plain (p .old .definition))
+  underOf p = witness (under (bare (p .new .definition)) (nameIn p)) (bare (p .old .definition))
 
   abbrev othersOf : FieldPairing s₁ s₂ t₁ t₂ r₁ r₂ → Members
-  othersOf p = others (plain (p .new .definition)) (nameIn p)
+  othersOf p = others (bare (p .new .definition)) (nameIn p)
 
   -- their bytes
   abbrev nameOut : FieldPairing s₁ s₂ t₁ t₂ r₁ r₂ → List ℕ
@@ -272,7 +274,7 @@ module _ {s₁ s₂ t₁ t₂ : List ℕ} {r₁ r₂ : ℕ} where
   othersOut p = further (othersOf p)
 
   member-spelled : (p q : FieldPairing s₁ s₂ t₁ t₂ r₁ r₂)
-      → spell (failingValue (plain (q .new .definition)) (nameIn q) (plain (q .old .definition))) ≡ ((nameOut p ++ underOut p) ++ othersOut p) ++ (0x7D ∷ [])
+      → spell (failingValue (bare (q .new .definition)) (nameIn q) (bare (q .old .definition))) ≡ ((nameOut p ++ underOut p) ++ othersOut p) ++ (0x7D ∷ [])
   member-spelled p q =
       rw (same-definition (q .new) (p .new), same-definition (q .old) (p .old)) (member-bytes (nameIn p) (underOf p) (othersOf p))
 
@@ -328,23 +330,23 @@ module _ {s₁ s₂ t₁ t₂ : List ℕ} {r₁ r₂ : ℕ} where
   -- what is asked under the name, by what was found there
   module _ {v room : ℕ} (k : UnderReady s₁ s₂ t₁ t₂ r₁ v r₂ room) where
     abbrev asked : Def
-    asked = under (plain (k .pair .new .definition)) (nameIn (k .pair))
+    asked = under (bare (k .pair .new .definition)) (nameIn (k .pair))
 
-    found : 0 < v → (d : DefinedRow s₁ t₁ v) × (plain (d .definition) ≡ asked)
+    found : 0 < v → (d : DefinedRow s₁ t₁ v) × (bare (d .definition) ≡ asked)
     found l =
-        let x = go (definitionUnder false (plain (k .pair .new .definition)) (nameIn (k .pair))) (k .finds .tells (k .pair .new)) in
-        (x .0, x .1 ∙ sym (under-found (plain (k .pair .new .definition)) (nameIn (k .pair))))
+        let x = go (definitionUnder false (bare (k .pair .new .definition)) (nameIn (k .pair))) (k .finds .tells (k .pair .new)) in
+        (x .0, x .1 ∙ sym (under-found (bare (k .pair .new .definition)) (nameIn (k .pair))))
       where
-        go : (o : Option Def) → Gives s₁ t₁ v o → (d : DefinedRow s₁ t₁ v) × (plain (d .definition) ≡ orDef (named JSON) o)
+        go : (o : Option Def) → Gives s₁ t₁ v o → (d : DefinedRow s₁ t₁ v) × (bare (d .definition) ≡ orDef (named JSON) o)
         go none g = absurd (omega arith)
         go (some d) g = (g .1, g .2)
 
     not-found : v ≤ 0 → underOf (k .pair) ≡ null
     not-found l =
-        ap (λ (d : Def). witness d (plain (k .pair .old .definition)))
-        (under-found (plain (k .pair .new .definition)) (nameIn (k .pair))
-        ∙ go (definitionUnder false (plain (k .pair .new .definition)) (nameIn (k .pair))) (k .finds .tells (k .pair .new)))
-        ∙ witness-json (plain (k .pair .old .definition))
+        ap (λ (d : Def). witness d (bare (k .pair .old .definition)))
+        (under-found (bare (k .pair .new .definition)) (nameIn (k .pair))
+        ∙ go (definitionUnder false (bare (k .pair .new .definition)) (nameIn (k .pair))) (k .finds .tells (k .pair .new)))
+        ∙ witness-json (bare (k .pair .old .definition))
       where
         go : (o : Option Def) → Gives s₁ t₁ v o → orDef (named JSON) o ≡ named JSON
         go none g = refl
@@ -355,7 +357,7 @@ module _ {s₁ s₂ t₁ t₂ : List ℕ} {r₁ r₂ : ℕ} where
       under-pair = record { new = found l .0; old = k .pair .old }
 
       under-value : underOf (k .pair) ≡ witnessOf under-pair
-      under-value = ap (λ (d : Def). witness d (plain (k .pair .old .definition))) (sym (found l .1))
+      under-value = ap (λ (d : Def). witness d (bare (k .pair .old .definition))) (sym (found l .1))
 
       pub under-ready : WitnessReady s₁ s₂ t₁ t₂ v (r₂ + 1) room
       under-ready = record { pair = under-pair; fits = subst (λ (v : Value). length (spell v) ≤ room) under-value (k .fits) }

@@ -9,17 +9,18 @@ use Rattle.model.specs.Text.{text}
 use Rattle.model.specs.Definition.{JSON, Def, named, array-of, map-of, object-of}
 use Rattle.model.specs.Subtype.{subtype, under, requires}
 use Rattle.model.specs.Meeting.{isSome}
-use Rattle.chars.specs.Spelling.{IsQuoted}
-use Rattle.reader.specs.Grammar.{nameOf}
-use Rattle.reader.specs.Holding.{word}
-use Rattle.schema.specs.Located.{plain, plainFields}
-use Rattle.schema.specs.Walking.{InTable, Finds}
-use Rattle.schema.specs.Comparing.{DefinedRow, OfObjectsRow, definitionUnder, Gives, FindsUnder, Pairing, PairingTo}
-use Rattle.schema.specs.Comparing.{fieldSubtype, firstFailing, FieldsPairing, Fails, FieldsFailing}
-use Rattle.schema.specs.declared.names.Generic.the-variants.{Object}
-use Rattle.schema.proofs.Defines.{partRows}
-use Rattle.schema.proofs.Shapes.{Fielded}
-use Rattle.schema.proofs.Carries.{field-all, object-fields, object-less, required-pair, optional-pair, fields-none}
+use Rattle.tokens.specs.Spelling.{IsQuoted}
+use Rattle.syntax.specs.Grammar.{nameOf}
+use Rattle.syntax.specs.Holding.{word}
+use Rattle.definitions.specs.Definitions.{bare, bareFields}
+use Rattle.rows.specs.Records.{InTable}
+use Rattle.rows.specs.Finding.{Finds}
+use Rattle.definitions.specs.Shapes.{DefinedRow, OfObjectsRow}
+use Rattle.comparison.specs.Fields.{definitionUnder, Gives, FindsUnder}
+use Rattle.comparison.specs.Carrying.{Pairing, PairingTo, fieldSubtype, firstFailing, FieldsPairing, Fails, FieldsFailing}
+use Rattle.definitions.specs.declared.types.Generic.the-variants.{Object}
+use Rattle.definitions.proofs.Facts.{partRows, Fielded}
+use Rattle.comparison.proofs.Facts.{field-all, object-fields, object-less, required-pair, optional-pair, fields-none}
 use Rattle.counterexample.specs.Writing.{failingOf, failing, FailingName}
 
 -- ---- a name that the new definition asks for
@@ -42,15 +43,15 @@ requires-some a n = go (requires a n) (definitionUnder true a n) (rw (takes-all 
 
 -- v was found for it
 module _ {s t n : List ℕ} {r v : ℕ} (g : FindsUnder s t r n true v) (d : DefinedRow s t r) where
-  found-some : 0 < v → requires (plain (d .definition)) n ≡ true
-  found-some l = requires-some (plain (d .definition)) n ∙ go (definitionUnder true (plain (d .definition)) n) (g .tells d)
+  found-some : 0 < v → requires (bare (d .definition)) n ≡ true
+  found-some l = requires-some (bare (d .definition)) n ∙ go (definitionUnder true (bare (d .definition)) n) (g .tells d)
     where
       go : (x : Option Def) → Gives s t v x → isSome x ≡ true
       go none h = absurd (omega arith)
       go (some e) h = refl
 
-  found-none : v ≤ 0 → requires (plain (d .definition)) n ≡ false
-  found-none l = requires-some (plain (d .definition)) n ∙ go (definitionUnder true (plain (d .definition)) n) (g .tells d)
+  found-none : v ≤ 0 → requires (bare (d .definition)) n ≡ false
+  found-none l = requires-some (bare (d .definition)) n ∙ go (definitionUnder true (bare (d .definition)) n) (g .tells d)
     where
       go : (x : Option Def) → Gives s t v x → isSome x ≡ false
       go none h = refl
@@ -104,7 +105,7 @@ module _ (s t : List ℕ) where
 -- the row of its name
 pub failing-at : {s₁ s₂ t₁ t₂ : List ℕ} {r₁ r₂ : ℕ} {required : Bool} {v : ℕ} → FieldsFailing s₁ s₂ t₁ t₂ r₁ r₂ required v → FieldsPairing s₁ s₂ t₁ t₂ r₁ r₂ → 0 < v
     → InTable t₂ v × IsQuoted s₂ (word t₂ v 1) (word t₂ v 2)
-failing-at {s₂ = s₂} {t₂ = t₂} {r₂ = r₂} {required = required} {v = v} k p l = go (firstFailing required (plain (p .new .definition)) (plainFields (p .old .fields))) (k .tells p)
+failing-at {s₂ = s₂} {t₂ = t₂} {r₂ = r₂} {required = required} {v = v} k p l = go (firstFailing required (bare (p .new .definition)) (bareFields (p .old .fields))) (k .tells p)
   where
     go : (x : Option (List ℕ × Def)) → Fails s₂ t₂ r₂ v x → InTable t₂ v × IsQuoted s₂ (word t₂ v 1) (word t₂ v 2)
     go none h = absurd (omega arith)
@@ -113,7 +114,7 @@ failing-at {s₂ = s₂} {t₂ = t₂} {r₂ = r₂} {required = required} {v = 
 -- ---- `failing_name`
 
 module _ {s₁ s₂ t₁ t₂ : List ℕ} {r₁ r₂ : ℕ} (i : PairingTo s₁ s₂ t₁ t₂ r₁ r₂ Object) where
-  abbrev old-object : (p : Pairing s₁ s₂ t₁ t₂ r₁ r₂) → Fielded s₂ t₂ r₂ (plain (p .old .definition))
+  abbrev old-object : (p : Pairing s₁ s₂ t₁ t₂ r₁ r₂) → Fielded s₂ t₂ r₂ (bare (p .old .definition))
   old-object p = object-fields (i .is) (p .old)
 
   pub name-other : OfObjectsRow s₁ t₁ r₁ false → FailingName s₁ s₂ t₁ t₂ r₁ r₂ 0
@@ -122,12 +123,12 @@ module _ {s₁ s₂ t₁ t₂ : List ℕ} {r₁ r₂ : ℕ} (i : PairingTo s₁ 
   -- `failing_field` answers w for "required"
   module _ (h : OfObjectsRow s₁ t₁ r₁ true) {v : ℕ} (f : Finds s₂ t₂ (r₂ + 2) (text "required") v) {w : ℕ} (k : FieldsFailing s₁ s₂ t₁ t₂ r₁ v true w) where
     abbrev first : Pairing s₁ s₂ t₁ t₂ r₁ r₂ → Option (List ℕ × Def)
-    first p = firstFailing true (plain (p .new .definition)) (plainFields (old-object p .required))
+    first p = firstFailing true (bare (p .new .definition)) (bareFields (old-object p .required))
 
     abbrev second : Pairing s₁ s₂ t₁ t₂ r₁ r₂ → Option (List ℕ × Def)
-    second p = firstFailing false (plain (p .new .definition)) (plainFields (old-object p .optional))
+    second p = firstFailing false (bare (p .new .definition)) (bareFields (old-object p .optional))
 
-    both : (p : Pairing s₁ s₂ t₁ t₂ r₁ r₂) → failingOf (plain (p .new .definition)) (first p) (second p) ≡ failing (plain (p .new .definition)) (plain (p .old .definition))
+    both : (p : Pairing s₁ s₂ t₁ t₂ r₁ r₂) → failingOf (bare (p .new .definition)) (first p) (second p) ≡ failing (bare (p .new .definition)) (bare (p .old .definition))
     both p = rw (old-object p .is) (rw (sym (h .tells (p .new))) refl)
 
     first-fails : (p : Pairing s₁ s₂ t₁ t₂ r₁ r₂) → Fails s₂ t₂ r₂ w (first p)
@@ -137,7 +138,7 @@ module _ {s₁ s₂ t₁ t₂ : List ℕ} {r₁ r₂ : ℕ} (i : PairingTo s₁ 
       pub name-required : 0 < u → FailingName s₁ s₂ t₁ t₂ r₁ r₂ w
       name-required m = record {
         tells = λ p.
-            (let a = plain (p .new .definition) in
+            (let a = bare (p .new .definition) in
             subst (Fails s₂ t₂ r₂ w) (both p) (fails-asked s₂ t₂ r₂ w a (first p) (second p) (first-fails p) l (found-some g (p .new) m)));
       }
 
@@ -145,14 +146,14 @@ module _ {s₁ s₂ t₁ t₂ : List ℕ} {r₁ r₂ : ℕ} (i : PairingTo s₁ 
       pub name-lacking : u ≤ 0 → FailingName s₁ s₂ t₁ t₂ r₁ r₂ 0
       name-lacking m = record {
         tells = λ p.
-            (let a = plain (p .new .definition) in
+            (let a = bare (p .new .definition) in
             subst (Fails s₂ t₂ r₂ 0) (both p) (fails-unasked s₂ t₂ r₂ w a (first p) (second p) (first-fails p) l (found-none g (p .new) m)));
       }
 
     pub name-optional : w ≤ 0 → {u : ℕ} → Finds s₂ t₂ (r₂ + 2) (text "optional") u → {x : ℕ} → FieldsFailing s₁ s₂ t₁ t₂ r₁ u false x → FailingName s₁ s₂ t₁ t₂ r₁ r₂ x
     name-optional l {u} g {x} m = record {
       tells = λ p.
-          (let a = plain (p .new .definition) in
+          (let a = bare (p .new .definition) in
           let y = widened s₂ t₂ u r₂ x (second p) (object-less i g) (λ e. fields-none e .tells (optional-pair i g p)) (m .tells (optional-pair i g p)) in
           subst (Fails s₂ t₂ r₂ x) (both p) (fails-optional s₂ t₂ r₂ w a (first p) (second p) (first-fails p) l x y));
     }

@@ -14,7 +14,8 @@ use Rattle.model.specs.Date.{at, twoDigits, two}
 use Rattle.chars.specs.declared.characters.Step.the-variants.{Char}
 use Rattle.chars.specs.Characters.{charAt}
 use Rattle.chars.specs.Strings.{charsAt}
-use Rattle.chars.proofs.Facts.{and-ways, chars-char}
+use Rattle.model.proofs.Basics.{and-ways}
+use Rattle.chars.proofs.Facts.{chars-char}
 use Rattle.date.specs.declared.walk.Number.{Number}
 use Rattle.date.specs.declared.walk.Number.the-variants.{Read, Wrong}
 use Rattle.date.specs.declared.walk.Found.{Found}

@@ -17,28 +17,28 @@ use Rattle.model.specs.Witness.{kept, behind, rarer, avoiding, names, ownNames,
 use Rattle.model.proofs.Basics.{both}
 use Rattle.model.proofs.Samples.{others-fresh}
 use Rattle.model.proofs.Letters.{nextLetter, letters-fewer, lettersFrom, letters-stop, letters-next, fresh-letters}
-use Rattle.reader.specs.Tree.{Members, no-member, member}
-use Rattle.reader.specs.Rows.{rowWords, sizesMembers}
-use Rattle.reader.specs.Grammar.{nameOf}
-use Rattle.reader.specs.Holding.{word}
+use Rattle.syntax.specs.Tree.{Members, no-member, member}
+use Rattle.syntax.specs.Rows.{rowWords, sizesMembers}
+use Rattle.syntax.specs.Grammar.{nameOf}
+use Rattle.syntax.specs.Holding.{word}
 use Rattle.grammar.specs.Utf8.{utf8}
 use Rattle.writer.specs.Spell.{spellChar, spellChars, spell}
 use Rattle.writer.specs.Compact.{over}
 use Rattle.writer.proofs.Over.{over-first, Wrote, wrote-byte}
-use Rattle.schema.specs.Located.{Located, named-at, array-at, map-at, object-at, LocatedFields, fine, definitionAt, fieldsAt, plain, plainFields}
-use Rattle.schema.specs.Walking.{Reads, PartRow, Finds}
-use Rattle.schema.specs.Comparing.{DefinedRow, typeIn, TypeRow, genericIn, GenericRow, FieldsRow}
-use Rattle.schema.specs.Names.{typeOf}
-use Rattle.schema.specs.declared.names.TypeName.{TypeName}
-use Rattle.schema.specs.declared.names.Generic.{Generic}
-use Rattle.schema.specs.declared.names.Generic.the-variants.{Array, Map, Object, Other}
-use Rattle.schema.specs.declared.rows.Record.{Record}
-use Rattle.schema.proofs.Trees.{row, as-row, part-object}
-use Rattle.schema.proofs.Defining.{added-fine}
-use Rattle.schema.proofs.Shapes.{in-array, in-map}
-use Rattle.schema.proofs.Carries.{of-name, object-fields, required-fields, optional-fields, of-kind, fields-empty, same-fields, same-definition}
+use Rattle.definitions.specs.Definitions.{Located, named-at, array-at, map-at, object-at, LocatedFields, fine, definitionAt, fieldsAt, bare, bareFields}
+use Rattle.rows.specs.Records.{Reads, PartRow}
+use Rattle.rows.specs.Finding.{Finds}
+use Rattle.definitions.specs.Shapes.{DefinedRow, typeIn, TypeRow, genericIn, GenericRow, FieldsRow}
+use Rattle.comparison.specs.Carrying.{typeOf}
+use Rattle.definitions.specs.declared.types.TypeName.{TypeName}
+use Rattle.definitions.specs.declared.types.Generic.{Generic}
+use Rattle.definitions.specs.declared.types.Generic.the-variants.{Array, Map, Object, Other}
+use Rattle.rows.specs.declared.records.Record.{Record}
+use Rattle.rows.proofs.Facts.{row, as-row, part-object}
+use Rattle.definitions.proofs.Facts.{added-fine, in-array, in-map, FieldsLeft, FieldHere, fields-none, fields-start, fields-end, field-here}
+use Rattle.definitions.proofs.Facts.{fields-empty, same-fields, same-definition}
+use Rattle.comparison.proofs.Facts.{of-name, object-fields, required-fields, optional-fields, of-kind}
 use Rattle.samples.proofs.Lent.{wrote, Lent, lent, lent-last}
-use Rattle.samples.proofs.Fields.{FieldsLeft, FieldHere, fields-none, fields-start, fields-end, field-here}
 use Rattle.samples.specs.Writing.{Writes, apartBy, further, CountsFields, CountsNames, LettersReady, LettersWritten, BeyondWritten}
 
 -- ---- a name that is compared with the letters p, up to the k-th
@@ -67,7 +67,7 @@ pub record Counting (s t : List ℕ) (r : ℕ) (p : List ℕ) (here left n : ℕ
   pub fields : LocatedFields
   pub ahead : FieldsLeft s t r here left fields
   pub few : n < here
-  pub stays : (f : FieldsRow s t r) → n + counted p (names (plainFields fields)) ≡ counted p (names (plainFields (f .fields)))
+  pub stays : (f : FieldsRow s t r) → n + counted p (names (bareFields fields)) ≡ counted p (names (bareFields (f .fields)))
 
 module _ {s t : List ℕ} {r : ℕ} {p : List ℕ} where
   pub count-none : r ≡ 0 → CountsFields s t r p 0
@@ -78,13 +78,13 @@ module _ {s t : List ℕ} {r : ℕ} {p : List ℕ} where
     fields = f .fields;
     ahead = fields-start f l e;
     few = omega arith;
-    stays = λ g. omega (arith, ap (λ (fs : LocatedFields). counted p (names (plainFields fs))) (same-fields f g));
+    stays = λ g. omega (arith, ap (λ (fs : LocatedFields). counted p (names (bareFields fs))) (same-fields f g));
   }
 
   module _ {here left n : ℕ} (a : Counting s t r p here left n) where
     pub count-end : left ≤ 0 → CountsFields s t r p n
     count-end l = record {
-      tells = λ f. (let z : n + 0 ≡ counted p (names (plainFields (f .fields))) = rw (fields-end (a .ahead) l) at (a .stays f) in omega arith);
+      tells = λ f. (let z : n + 0 ≡ counted p (names (bareFields (f .fields))) = rw (fields-end (a .ahead) l) at (a .stays f) in omega arith);
     }
 
     module _ (l : 0 < left) where
@@ -96,7 +96,7 @@ module _ {s t : List ℕ} {r : ℕ} {p : List ℕ} where
         -- it counts by whether it begins with p
         pub count-next : {b : Bool} → b ≡ begins p (nameOf s (x .first) (x .end)) → {m : ℕ} → m ≡ cond b (n + 1) n → Counting s t r p (y .next) (left - 1) m
         count-next {b} e {m} q =
-            let rest = counted p (names (plainFields (this .others))) in
+            let rest = counted p (names (bareFields (this .others))) in
             let z : b ≡ begins p (nameOf s (word t here 1) (word t here 2)) = rw (g .first, g .last) at e in
             record {
               fields = this .others;
@@ -128,7 +128,7 @@ counted-few p [] = omega arith
 counted-few p (n ∷ ns) = both (λ k. k ≤ suc (length ns)) (begins p n) (λ _. omega (arith, counted-few p ns)) (λ _. omega (arith, counted-few p ns))
 
 -- each has a row
-names-few : (s : List ℕ) (ms : Members) (fs : LocatedFields) → fieldsAt s ms ≡ fine fs → length (names (plainFields fs)) ≤ sizesMembers ms
+names-few : (s : List ℕ) (ms : Members) (fs : LocatedFields) → fieldsAt s ms ≡ fine fs → length (names (bareFields fs)) ≤ sizesMembers ms
 names-few s no-member fs q = rw (fields-empty s refl q) (omega arith)
 names-few s (member f e n ms) fs q =
     let k = added-fine f (nameOf s f e) (definitionAt s n) (fieldsAt s ms) fs q in
@@ -141,7 +141,7 @@ part-few {r = suc r} o = omega (arith, row (as-row (part-object o (omega arith))
 module _ {s t : List ℕ} {p : List ℕ} where
   pub count-few : {r n : ℕ} → FieldsRow s t r → CountsFields s t r p n → rowWords * n ≤ length t
   count-few f h =
-      omega (arith, h .tells f, counted-few p (names (plainFields (f .fields))), names-few s (f .part .members) (f .fields) (f .defines), part-few (f .part))
+      omega (arith, h .tells f, counted-few p (names (bareFields (f .fields))), names-few s (f .part .members) (f .fields) (f .defines), part-few (f .part))
 
   pub count-both : {r v w n m : ℕ} (o : GenericRow s t r Object) → Finds s t (r + 2) (text "required") v → Finds s t (r + 2) (text "optional") w
       → CountsFields s t v p n → CountsFields s t w p m → CountsNames s t r p (n + m)
@@ -154,12 +154,12 @@ module _ {s t : List ℕ} {p : List ℕ} where
 -- of a buffer that held `before`, n bytes are written: the letters of `done`, and the others follow, `left` at most
 pub record Lettering (s t : List ℕ) (r : ℕ) (before : List ℕ) (n : ℕ) (out : List ℕ) : Type 0 where
   pub row : DefinedRow s t r
-  pub fits : length (fresh (plain (row .definition))) ≤ length before
+  pub fits : length (fresh (bare (row .definition))) ≤ length before
   pub done : List ℕ
   pub wrote : Wrote before n out done
   pub left : ℕ
-  pub enough : counted done (ownNames (plain (row .definition))) ≤ left
-  pub splits : fresh (plain (row .definition)) ≡ done ++ lettersFrom left done (ownNames (plain (row .definition)))
+  pub enough : counted done (ownNames (bare (row .definition))) ≤ left
+  pub splits : fresh (bare (row .definition)) ≡ done ++ lettersFrom left done (ownNames (bare (row .definition)))
 
 pub letters-start : {s t : List ℕ} {r : ℕ} (out : List ℕ) → LettersReady s t r (length out) → Lettering s t r (set out 0 0x61) 1 (set out 0 0x61)
 letters-start out p = record {
@@ -167,14 +167,14 @@ letters-start out p = record {
   fits = simp length-set (p .fits);
   done = 0x61 ∷ [];
   wrote = wrote-byte out 0x61 (omega (arith, p .fits));
-  left = length (ownNames (plain (p .row .definition)));
-  enough = counted-few (0x61 ∷ []) (ownNames (plain (p .row .definition)));
-  splits = fresh-letters (plain (p .row .definition));
+  left = length (ownNames (bare (p .row .definition)));
+  enough = counted-few (0x61 ∷ []) (ownNames (bare (p .row .definition)));
+  splits = fresh-letters (bare (p .row .definition));
 }
 
 module _ {s t : List ℕ} {r : ℕ} {before : List ℕ} {n : ℕ} {out : List ℕ} (g : Lettering s t r before n out) where
   abbrev own : List (List ℕ)
-  own = ownNames (plain (g .row .definition))
+  own = ownNames (bare (g .row .definition))
 
   abbrev next : ℕ
   next = nextLetter (g .done) own
@@ -196,11 +196,11 @@ module _ {s t : List ℕ} {r : ℕ} {before : List ℕ} {n : ℕ} {out : List �
 
     pub letters-end : k ≤ 0 → {buffer : List ℕ} → before ≡ set buffer 0 0x61 → LettersWritten s t r n buffer out
     letters-end l {buffer} e =
-        let z : fresh (plain (g .row .definition)) ≡ g .done = g .splits ∙ ap (_++_ (g .done)) (letters-stop (g .left) (g .done) own (omega (arith, told))) ∙ append-nil (g .done) in
+        let z : fresh (bare (g .row .definition)) ≡ g .done = g .splits ∙ ap (_++_ (g .done)) (letters-stop (g .left) (g .done) own (omega (arith, told))) ∙ append-nil (g .done) in
         record {
-          tells = λ d. subst (λ (x : Located). Writes (fresh (plain x)) n buffer out) (same-definition (g .row) d) (
+          tells = λ d. subst (λ (x : Located). Writes (fresh (bare x)) n buffer out) (same-definition (g .row) d) (
             g .wrote .count ∙ ap length (sym z),
-            g .wrote .holds ∙ ap₂ over (sym z) e ∙ over-first buffer (fresh (plain (g .row .definition))) 0x61 (omega arith),
+            g .wrote .holds ∙ ap₂ over (sym z) e ∙ over-first buffer (fresh (bare (g .row .definition))) 0x61 (omega arith),
           );
         }
 
@@ -209,11 +209,11 @@ module _ {s t : List ℕ} {r : ℕ} {before : List ℕ} {n : ℕ} {out : List �
       some = omega (arith, told)
 
       -- the next letter, and those behind it
-      follows : (j : ℕ) × (counted (g .done ++ next ∷ []) own ≤ j) × (fresh (plain (g .row .definition)) ≡ (g .done ++ next ∷ []) ++ lettersFrom j (g .done ++ next ∷ []) own)
+      follows : (j : ℕ) × (counted (g .done ++ next ∷ []) own ≤ j) × (fresh (bare (g .row .definition)) ≡ (g .done ++ next ∷ []) ++ lettersFrom j (g .done ++ next ∷ []) own)
       follows = go (g .left) (g .enough) (g .splits)
         where
-          go : (i : ℕ) → counted (g .done) own ≤ i → fresh (plain (g .row .definition)) ≡ g .done ++ lettersFrom i (g .done) own
-              → (j : ℕ) × (counted (g .done ++ next ∷ []) own ≤ j) × (fresh (plain (g .row .definition)) ≡ (g .done ++ next ∷ []) ++ lettersFrom j (g .done ++ next ∷ []) own)
+          go : (i : ℕ) → counted (g .done) own ≤ i → fresh (bare (g .row .definition)) ≡ g .done ++ lettersFrom i (g .done) own
+              → (j : ℕ) × (counted (g .done ++ next ∷ []) own ≤ j) × (fresh (bare (g .row .definition)) ≡ (g .done ++ next ∷ []) ++ lettersFrom j (g .done ++ next ∷ []) own)
           go zero f q = absurd (omega (arith, some))
           go (suc i) f q = (
             i,
@@ -268,23 +268,23 @@ module _ {s t : List ℕ} {r : ℕ} {before : List ℕ} {n : ℕ} {out : List �
 -- ---- a value of the definition at row r that meets only the named types that take all of it
 
 pub beyond-as : {s t : List ℕ} {r : ℕ} {w : List ℕ} {n : ℕ} {out out₂ : List ℕ}
-    → ((d : DefinedRow s t r) → spell (beyondNamed (plain (d .definition))) ≡ w) → Writes w n out out₂ → BeyondWritten s t r n out out₂
+    → ((d : DefinedRow s t r) → spell (beyondNamed (bare (d .definition))) ≡ w) → Writes w n out out₂ → BeyondWritten s t r n out out₂
 beyond-as f h = record { tells = λ d. rw (f d) h }
 
-pub beyond-same : {s t : List ℕ} {r : ℕ} (e d : DefinedRow s t r) → spell (beyondNamed (plain (d .definition))) ≡ spell (beyondNamed (plain (e .definition)))
-beyond-same e d = ap (λ (x : Located). spell (beyondNamed (plain x))) (same-definition d e)
+pub beyond-same : {s t : List ℕ} {r : ℕ} (e d : DefinedRow s t r) → spell (beyondNamed (bare (d .definition))) ≡ spell (beyondNamed (bare (e .definition)))
+beyond-same e d = ap (λ (x : Located). spell (beyondNamed (bare x))) (same-definition d e)
 
 module _ {s t : List ℕ} {r : ℕ} {g : Generic} (h : GenericRow s t r g) where
-  pub beyond-array : g ≡ Array → (d : DefinedRow s t r) → spell (beyondNamed (plain (d .definition))) ≡ text "[]"
+  pub beyond-array : g ≡ Array → (d : DefinedRow s t r) → spell (beyondNamed (bare (d .definition))) ≡ text "[]"
   beyond-array e d = rw (in-array d (of-kind h e d) .is) refl
 
-  pub beyond-map : g ≡ Map → (d : DefinedRow s t r) → spell (beyondNamed (plain (d .definition))) ≡ text "{}"
+  pub beyond-map : g ≡ Map → (d : DefinedRow s t r) → spell (beyondNamed (bare (d .definition))) ≡ text "{}"
   beyond-map e d = rw (in-map d (of-kind h e d) .is) refl
 
-  pub beyond-name : g ≡ Other → {k : TypeName} → TypeRow s t r k → (d : DefinedRow s t r) → spell (beyondNamed (plain (d .definition))) ≡ spell (apartBy (typeOf k))
+  pub beyond-name : g ≡ Other → {k : TypeName} → TypeRow s t r k → (d : DefinedRow s t r) → spell (beyondNamed (bare (d .definition))) ≡ spell (apartBy (typeOf k))
   beyond-name e {k} q d = go (d .definition) (of-kind h e d) (q .tells d)
     where
-      go : (x : Located) → Other ≡ genericIn x → k ≡ typeIn x → spell (beyondNamed (plain x)) ≡ spell (apartBy (typeOf k))
+      go : (x : Located) → Other ≡ genericIn x → k ≡ typeIn x → spell (beyondNamed (bare x)) ≡ spell (apartBy (typeOf k))
       go (named-at p t) z w = sym (ap (λ (k : TypeName). spell (apartBy (typeOf k))) w ∙ ap (λ (m : Option Named). spell (apartBy m)) (of-name t))
       go (array-at p x) z w = absurd (let z : _≡_ {A = ℕ} 0 1 = cc in omega arith)
       go (map-at p x) z w = absurd (let z : _≡_ {A = ℕ} 0 1 = cc in omega arith)

@@ -11,18 +11,17 @@ use types.Run.{OneOf, miss}
 use Rattle.model.specs.Text.{text}
 use Rattle.chars.specs.Bytes.{byteAt}
 use Rattle.chars.specs.Strings.{part}
-use Rattle.chars.specs.Spelling.{IsQuoted}
-use Rattle.chars.proofs.Facts.{quoted-characters}
-use Rattle.chars.proofs.Pieces.{part-one, part-join}
-use Rattle.reader.specs.Grammar.{nameOf}
+use Rattle.tokens.specs.Spelling.{IsQuoted}
+use Rattle.tokens.proofs.Facts.{quoted-characters, part-one, part-join}
+use Rattle.syntax.specs.Grammar.{nameOf}
 use Rattle.writer.specs.Spell.{spellString, spell}
 use Rattle.writer.specs.Tokens.{stringEnd, stringBytes}
 use Rattle.writer.proofs.Tokens.{string-end}
 use Rattle.writer.proofs.Over.{Wrote, wrote-none, wrote-length}
-use Rattle.schema.specs.Names.{typeOf}
-use Rattle.schema.specs.declared.names.TypeName.{TypeName}
-use Rattle.schema.specs.declared.names.TypeName.the-variants.{Json, Schema, Float, Integer, Text, Boolean, DateTime, Unknown}
-use Rattle.schema.proofs.names.TypeName.{the-type}
+use Rattle.comparison.specs.Carrying.{typeOf}
+use Rattle.definitions.specs.declared.types.TypeName.{TypeName}
+use Rattle.definitions.specs.declared.types.TypeName.the-variants.{Json, Schema, Float, Integer, Text, Boolean, DateTime, Unknown}
+use Rattle.definitions.proofs.types.TypeName.{the-type}
 use Rattle.samples.proofs.Lent.{wrote, wrote-as, Lent, lent, lent-last}
 use Rattle.samples.specs.Writing.{Writes, plainBy, apartBy, NameReady, NameWritten}
 

@@ -11,32 +11,33 @@ use Rattle.model.specs.Text.{text, same}
 use Rattle.model.specs.Value.{object, Members, mnil, mcons}
 use Rattle.model.specs.Definition.{Def, Fields}
 use Rattle.model.specs.Witness.{sample, kept, others}
-use Rattle.reader.specs.Grammar.{nameOf}
-use Rattle.reader.specs.Holding.{word}
+use Rattle.syntax.specs.Grammar.{nameOf}
+use Rattle.syntax.specs.Holding.{word}
 use Rattle.writer.specs.Spell.{spell, spellMembers}
 use Rattle.writer.specs.Compact.{over}
 use Rattle.writer.proofs.Over.{Wrote, wrote-none, wrote-length, over-byte}
-use Rattle.schema.specs.Located.{Located, named-at, array-at, map-at, object-at, LocatedFields, plain, plainFields}
-use Rattle.schema.specs.Names.{typeOf}
-use Rattle.schema.specs.Walking.{Reads, Finds}
-use Rattle.schema.specs.Comparing.{DefinedRow, typeIn, TypeRow, genericIn, GenericRow, FieldsRow}
-use Rattle.schema.specs.declared.rows.Record.{Record}
-use Rattle.schema.specs.declared.names.TypeName.{TypeName}
-use Rattle.schema.specs.declared.names.Generic.{Generic}
-use Rattle.schema.specs.declared.names.Generic.the-variants.{Array, Map, Object, Other}
-use Rattle.schema.proofs.names.Generic.{the-type}
-use Rattle.schema.proofs.Trees.{row}
-use Rattle.schema.proofs.Shapes.{in-array, in-map, part-less}
-use Rattle.schema.proofs.Defines.{partRows}
-use Rattle.schema.proofs.Carries.{of-name, of-kind, object-fields, required-fields, same-fields, same-definition}
+use Rattle.definitions.specs.Definitions.{Located, named-at, array-at, map-at, object-at, LocatedFields, bare, bareFields}
+use Rattle.comparison.specs.Carrying.{typeOf}
+use Rattle.rows.specs.Records.{Reads}
+use Rattle.rows.specs.Finding.{Finds}
+use Rattle.definitions.specs.Shapes.{DefinedRow, typeIn, TypeRow, genericIn, GenericRow, FieldsRow}
+use Rattle.rows.specs.declared.records.Record.{Record}
+use Rattle.definitions.specs.declared.types.TypeName.{TypeName}
+use Rattle.definitions.specs.declared.types.Generic.{Generic}
+use Rattle.definitions.specs.declared.types.Generic.the-variants.{Array, Map, Object, Other}
+use Rattle.definitions.proofs.types.Generic.{the-type}
+use Rattle.rows.proofs.Facts.{row}
+use Rattle.definitions.proofs.Facts.{in-array, in-map, part-less, partRows, FieldsLeft, FieldHere, fields-none, fields-start, fields-end}
+use Rattle.definitions.proofs.Facts.{field-here, same-fields, same-definition}
+use Rattle.comparison.proofs.Facts.{of-name, of-kind, object-fields, required-fields}
 use Rattle.samples.proofs.Lent.{leftOf, putBack, wrote, wrote-as, Lent, lent, lent-more}
-use Rattle.samples.proofs.Fields.{FieldsLeft, FieldHere, fields-none, fields-start, fields-end, field-here}
 use Rattle.samples.specs.Writing.{Writes, plainBy, nameBytes, NameReady, NameWritten, further, SampleReady, SampleWritten, fieldBytes}
-use Rattle.samples.specs.Writing.{FieldReady, FieldWritten, keeps, FieldsReady, FieldsWritten, RequiredReady, RequiredWritten, OthersReady, OthersWritten}
+use Rattle.samples.specs.Writing.{FieldReady, FieldWritten, keeps, FieldsReady, FieldsWritten, RequiredReady, RequiredWritten}
+use Rattle.samples.specs.Writing.{OthersReady, OthersWritten}
 
 -- ---- by the kind of the definition at row r
 
-named-sample : (d : Located) → Other ≡ genericIn d → sample (plain d) ≡ plainBy (typeOf (typeIn d))
+named-sample : (d : Located) → Other ≡ genericIn d → sample (bare d) ≡ plainBy (typeOf (typeIn d))
 named-sample (named-at p t) q = sym (ap plainBy (of-name t))
 named-sample (array-at p d) q = absurd (let z : _≡_ {A = ℕ} 0 1 = cc in omega arith)
 named-sample (map-at p d) q = absurd (let z : _≡_ {A = ℕ} 0 1 = cc in omega arith)
@@ -44,7 +45,7 @@ named-sample (object-at p r o) q = absurd (let z : _≡_ {A = ℕ} 0 1 = cc in o
 
 -- what is written for the definition there
 abbrev pub sampleBytes : {s t : List ℕ} {r : ℕ} → DefinedRow s t r → List ℕ
-sampleBytes d = spell (sample (plain (d .definition)))
+sampleBytes d = spell (sample (bare (d .definition)))
 
 module _ {s t : List ℕ} {r : ℕ} {w : List ℕ} (k : (d : DefinedRow s t r) → sampleBytes d ≡ w) where
   pub sample-fits : {room : ℕ} → SampleReady s t r room → length w ≤ room
@@ -67,7 +68,7 @@ module _ {s t : List ℕ} {r : ℕ} {g : Generic} (h : GenericRow s t r g) where
   as-object e = record { tells = of-kind h e }
 
 module _ {s t : List ℕ} {r : ℕ} (o : GenericRow s t r Object) {v : ℕ} (f : Finds s t (r + 2) (text "required") v) where
-  object-sample : (d : DefinedRow s t r) → sampleBytes d ≡ spell (object (kept (λ m. true) (plainFields (required-fields o f d .fields))))
+  object-sample : (d : DefinedRow s t r) → sampleBytes d ≡ spell (object (kept (λ m. true) (bareFields (required-fields o f d .fields))))
   object-sample d = ap (λ (a : Def). spell (sample a)) (object-fields o d .is)
 
   pub required-ready : {room : ℕ} → SampleReady s t r room → RequiredReady s t v room
@@ -80,7 +81,7 @@ module _ {s t : List ℕ} {r : ℕ} (o : GenericRow s t r Object) {v : ℕ} (f :
   sample-required k = record { tells = λ d. rw (object-sample d) (k .tells (required-fields o f d)) }
 
   -- the members but the one of a key
-  object-others : (key : List ℕ) (d : DefinedRow s t r) → others (plain (d .definition)) key ≡ kept (keeps false key) (plainFields (required-fields o f d .fields))
+  object-others : (key : List ℕ) (d : DefinedRow s t r) → others (bare (d .definition)) key ≡ kept (keeps false key) (bareFields (required-fields o f d .fields))
   object-others key d = ap (λ (a : Def). others a key) (object-fields o d .is)
 
   module _ {key : List ℕ} where
@@ -91,7 +92,7 @@ module _ {s t : List ℕ} {r : ℕ} (o : GenericRow s t r Object) {v : ℕ} (f :
     others-written k = record { tells = λ d. rw (object-others key d) (k .tells (required-fields o f d)) }
 
 -- any other definition asks for none
-no-others : (key : List ℕ) (d : Located) → OneOf (0 ∷ 1 ∷ 3 ∷ []) (tagOf the-type (genericIn d)) → others (plain d) key ≡ mnil
+no-others : (key : List ℕ) (d : Located) → OneOf (0 ∷ 1 ∷ 3 ∷ []) (tagOf the-type (genericIn d)) → others (bare d) key ≡ mnil
 no-others key (named-at p t) h = refl
 no-others key (array-at p d) h = refl
 no-others key (map-at p d) h = refl
@@ -129,27 +130,27 @@ object-closed out (mcons m v ms) {mid} {n} g z l =
 -- `write_required`
 module _ {s t : List ℕ} {r : ℕ} where
   pub fields-ready : {key : List ℕ} {room : ℕ} → RequiredReady s t r room → FieldsReady s t r true key room
-  fields-ready p = record { row = p .row; fits = omega (arith, p .fits, further-room (kept (λ m. true) (plainFields (p .row .fields)))) }
+  fields-ready p = record { row = p .row; fits = omega (arith, p .fits, further-room (kept (λ m. true) (bareFields (p .row .fields)))) }
 
   pub required-least : {room : ℕ} → RequiredReady s t r room → 2 ≤ room
-  required-least p = let ms = kept (λ m. true) (plainFields (p .row .fields)) in omega (arith, p .fits, length-append (spellMembers ms) (0x7D ∷ []))
+  required-least p = let ms = kept (λ m. true) (bareFields (p .row .fields)) in omega (arith, p .fits, length-append (spellMembers ms) (0x7D ∷ []))
 
   module _ {key : List ℕ} {n : ℕ} {out mid : List ℕ} (k : FieldsWritten s t r true key n out mid) where
     pub required-room : {room : ℕ} → RequiredReady s t r room → n < room
     required-room p =
-        let ms = kept (λ m. true) (plainFields (p .row .fields)) in
+        let ms = kept (λ m. true) (bareFields (p .row .fields)) in
         omega (arith, k .tells (p .row) .0, p .fits, further-room ms)
 
     pub required-length : RequiredReady s t r (length out) → length mid ≡ length out
     required-length p =
-        let w : Wrote out n mid (further (kept (λ m. true) (plainFields (p .row .fields)))) = wrote (k .tells (p .row)) in
+        let w : Wrote out n mid (further (kept (λ m. true) (bareFields (p .row .fields)))) = wrote (k .tells (p .row)) in
         wrote-length w (omega (arith, required-room p))
 
     pub required-empty : n ≡ 0 → {j : ℕ} {out₂ : List ℕ} → Writes (text "{}") j mid out₂ → RequiredWritten s t r j out out₂
-    required-empty e w = record { tells = λ f. object-empty out (kept (λ m. true) (plainFields (f .fields))) (k .tells f) e w }
+    required-empty e w = record { tells = λ f. object-empty out (kept (λ m. true) (bareFields (f .fields))) (k .tells f) e w }
 
     pub required-closed : (n ≡ 0 → ⊥) → n < length out → RequiredWritten s t r (n + 1) out (set (set mid 0 0x7B) n 0x7D)
-    required-closed z l = record { tells = λ f. object-closed out (kept (λ m. true) (plainFields (f .fields))) (k .tells f) z l }
+    required-closed z l = record { tells = λ f. object-closed out (kept (λ m. true) (bareFields (f .fields))) (k .tells f) z l }
 
 -- ---- `write_field`
 
@@ -165,7 +166,7 @@ module _ {s t : List ℕ} {r room : ℕ} (p : FieldReady s t r room) where
   Named out n u = Lent out n u (nameBytes 0x2C (nameOf s (word t r 1) (word t r 2))) (length (sampleBytes (p .row)))
 
   abbrev pub Valued : List ℕ → ℕ → List ℕ → Type 0
-  Valued out n u = Lent out n u (fieldBytes (nameOf s (word t r 1) (word t r 2)) (plain (p .row .definition))) 0
+  Valued out n u = Lent out n u (fieldBytes (nameOf s (word t r 1) (word t r 2)) (bare (p .row .definition))) 0
 
   module _ {x : Record} (q : Reads t r x) where
     pub name-ready : NameReady s (x .first) room 0x2C
@@ -183,7 +184,7 @@ module _ {s t : List ℕ} {r room : ℕ} (p : FieldReady s t r room) where
 
     pub field-written : Valued out n u → FieldWritten s t r n out u
     field-written g = record {
-      tells = λ d. wrote-as (g .wrote) (ap (λ (x : Located). fieldBytes (nameOf s (word t r 1) (word t r 2)) (plain x)) (same-definition d (p .row)));
+      tells = λ d. wrote-as (g .wrote) (ap (λ (x : Located). fieldBytes (nameOf s (word t r 1) (word t r 2)) (bare x)) (same-definition d (p .row)));
     }
 
 -- ---- the members of the fields at row r
@@ -194,7 +195,7 @@ pub record InFields (s t : List ℕ) (r : ℕ) (all : Bool) (key : List ℕ) (he
   pub ahead : FieldsLeft s t r here left fields
   pub done : List ℕ
   pub wrote : Wrote before n out done
-  pub splits : (f : FieldsRow s t r) → further (kept (keeps all key) (plainFields (f .fields))) ≡ done ++ further (kept (keeps all key) (plainFields fields))
+  pub splits : (f : FieldsRow s t r) → further (kept (keeps all key) (bareFields (f .fields))) ≡ done ++ further (kept (keeps all key) (bareFields fields))
 
 -- whether a name is kept: by the flag, and then by its comparison with the key
 pub keeps-all : (key m : List ℕ) {all : Bool} → all ≡ true → keeps all key m ≡ true
@@ -215,14 +216,14 @@ module _ {s t : List ℕ} {r : ℕ} {all : Bool} {key : List ℕ} where
       ahead = fields-start (p .row) l e;
       done = [];
       wrote = wrote-none before;
-      splits = λ f. ap (λ (fs : LocatedFields). further (kept (keeps all key) (plainFields fs))) (same-fields f (p .row));
+      splits = λ f. ap (λ (fs : LocatedFields). further (kept (keeps all key) (bareFields fs))) (same-fields f (p .row));
     }
 
     module _ {here left n : ℕ} {out : List ℕ} (a : InFields s t r all key here left before n out) where
       -- there is room for what is still to be written
-      pub in-lent : Lent before n out (a .done) (length (further (kept (keeps all key) (plainFields (a .fields)))))
+      pub in-lent : Lent before n out (a .done) (length (further (kept (keeps all key) (bareFields (a .fields)))))
       in-lent =
-          let w = further (kept (keeps all key) (plainFields (a .fields))) in
+          let w = further (kept (keeps all key) (bareFields (a .fields))) in
           lent (a .wrote) (omega (arith, p .fits, a .wrote .count, ap length (a .splits (p .row)), length-append (a .done) w))
 
       pub in-within : n ≤ length out
@@ -234,17 +235,17 @@ module _ {s t : List ℕ} {r : ℕ} {all : Bool} {key : List ℕ} where
         this = field-here (a .ahead) l
 
         abbrev bytes : List ℕ
-        bytes = fieldBytes (nameOf s (word t here 1) (word t here 2)) (plain (this .row .definition))
+        bytes = fieldBytes (nameOf s (word t here 1) (word t here 2)) (bare (this .row .definition))
 
         abbrev rest : List ℕ
-        rest = further (kept (keeps all key) (plainFields (this .others)))
+        rest = further (kept (keeps all key) (bareFields (this .others)))
 
-        one-more : further (kept (keeps all key) (plainFields (a .fields))) ≡ bytes ++ rest
+        one-more : further (kept (keeps all key) (bareFields (a .fields))) ≡ bytes ++ rest
         one-more =
             ap (λ (fs : Fields). further (kept (keeps all key) fs)) (this .is)
-            ∙ rw k (further-field (nameOf s (word t here 1) (word t here 2)) (plain (this .row .definition)) (kept (keeps all key) (plainFields (this .others))))
+            ∙ rw k (further-field (nameOf s (word t here 1) (word t here 2)) (bare (this .row .definition)) (kept (keeps all key) (bareFields (this .others))))
 
-        one-room : length bytes + length rest ≤ length (further (kept (keeps all key) (plainFields (a .fields))))
+        one-room : length bytes + length rest ≤ length (further (kept (keeps all key) (bareFields (a .fields))))
         one-room = omega (arith, ap length one-more, length-append bytes rest)
 
         pub in-ready : FieldReady s t here (length (leftOf n out))

@@ -1,4 +1,4 @@
--- `teleport_compare` is `schema::compare`, its answer as words.
+-- `teleport_compare` is `comparison::compare`, its answer as words.
 use borrow.Author.Needs.{needs}
 use Rattle.teleport_c.proofs.teleport_compare.Statement.{statement}
 use Rattle.teleport_c.proofs.teleport_compare.Tie as tie

@@ -5,7 +5,7 @@ use native.Mathlib.Omega.{arith}
 use lib.ListN.{length}
 use lib.Seq.{length-take-le}
 use borrow.Author.Needs.{needs}
-use Rattle.reader.specs.declared.answers.Answer.{Answer}
+use Rattle.syntax.specs.declared.answers.Answer.{Answer}
 use Rattle.writer.proofs.Answers.{compact-fits}
 use Rattle.teleport_tools.proofs.compact.Statement.{statement}
 use Rattle.teleport_tools.proofs.compact.Tie as tie

@@ -17,9 +17,9 @@ use Rattle.chars.specs.declared.characters.Step.the-variants.{Char, Quote, Refu
 use Rattle.chars.specs.declared.strings.Scan.the-variants.{Ends}
 use Rattle.chars.specs.Characters.{charAt}
 use Rattle.chars.specs.Strings.{stringAt, charsAt, part}
-use Rattle.chars.specs.Spelling.{IsQuoted}
+use Rattle.tokens.specs.Spelling.{IsQuoted}
 use Rattle.chars.proofs.Facts.{run-next, run-from, char-next, string-bounds, string-char, chars-char}
-use Rattle.chars.proofs.Pieces.{part-one}
+use Rattle.tokens.proofs.Facts.{part-one}
 use Rattle.grammar.proofs.CharTrees.{char-quote}
 use Rattle.writer.specs.Spell.{spellChar, spellChars}
 use Rattle.writer.specs.Runs.{isOrdinary, ordinaryEnd, isStructural, isAtom, atomEnd}

@@ -9,10 +9,10 @@ use lib.Dec.{leb}
 use borrow.Author.Tests.{leb-true, leb-false}
 use Rattle.model.proofs.Basics.{by-test}
 use Rattle.chars.specs.Bytes.{byteAt}
-use Rattle.chars.specs.Space.{run}
+use Rattle.chars.specs.Runs.{run}
 use Rattle.chars.specs.Strings.{part}
 use Rattle.chars.proofs.Facts.{run-end, run-next, run-from, run-within}
-use Rattle.chars.proofs.Pieces.{part-none, part-one, part-join}
+use Rattle.tokens.proofs.Facts.{part-none, part-one, part-join}
 use Rattle.writer.specs.Compact.{over}
 use Rattle.writer.proofs.Over.{length-over, over-byte}
 

@@ -6,7 +6,7 @@ use mathlib.Core.List.{List, [], _∷_, _++_, append-assoc, append-nil}
 use native.Mathlib.Omega.{arith}
 use lib.ListN.{length, length-append}
 use Rattle.chars.specs.Bytes.{byteAt}
-use Rattle.chars.specs.Space.{isSpace, skip}
+use Rattle.tokens.specs.Space.{isSpace, skip}
 use Rattle.chars.proofs.Facts.{run-from, run-ended}
 use Rattle.writer.specs.Tokens.{stringEnd, stringBytes, tokenEnd, tokenBytes, piece, Tokens, TokenReady}
 use Rattle.writer.specs.declared.pieces.Piece.{Piece}

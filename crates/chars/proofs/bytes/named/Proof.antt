@@ -4,38 +4,6 @@ use Rattle.chars.specs.Bytes.{named}
 use Rattle.chars.proofs.bytes.named.Statement.{statement}
 use Rattle.chars.proofs.bytes.named.Tie as tie
 
-returns : tie.Need-returns
-unfolding named
-returns c = sym (ap named (c .match .keys1))
-
-returns-2 : tie.Need-returns-2
-unfolding named
-returns-2 c = sym (ap named (c .match .keys2))
-
-returns-3 : tie.Need-returns-3
-unfolding named
-returns-3 c = sym (ap named (c .match .keys3))
-
-returns-4 : tie.Need-returns-4
-unfolding named
-returns-4 c = sym (ap named (c .match .keys4))
-
-returns-5 : tie.Need-returns-5
-unfolding named
-returns-5 c = sym (ap named (c .match .keys5))
-
-returns-6 : tie.Need-returns-6
-unfolding named
-returns-6 c = sym (ap named (c .match .keys6))
-
-returns-7 : tie.Need-returns-7
-unfolding named
-returns-7 c = sym (ap named (c .match .keys7))
-
-returns-8 : tie.Need-returns-8
-unfolding named
-returns-8 c = sym (ap named (c .match .keys8))
-
 returns-9 : tie.Need-returns-9
 unfolding named
 returns-9 c = let r = c .match .rest in
@@ -51,15 +19,14 @@ returns-9 c = let r = c .match .rest in
     )
 
 pub named-spec : {M : Type 1} → statement M
-named-spec =
-    tie.close
-    (tie.spec
-    returns
-    returns-2
-    returns-3
-    returns-4
-    returns-5
-    returns-6
-    returns-7
-    returns-8
+unfolding named
+named-spec = tie.close (tie.spec
+    (λ c. sym (ap named (c .match .keys1)))  -- returns
+    (λ c. sym (ap named (c .match .keys2)))  -- returns-2
+    (λ c. sym (ap named (c .match .keys3)))  -- returns-3
+    (λ c. sym (ap named (c .match .keys4)))  -- returns-4
+    (λ c. sym (ap named (c .match .keys5)))  -- returns-5
+    (λ c. sym (ap named (c .match .keys6)))  -- returns-6
+    (λ c. sym (ap named (c .match .keys7)))  -- returns-7
+    (λ c. sym (ap named (c .match .keys8)))  -- returns-8
     returns-9)

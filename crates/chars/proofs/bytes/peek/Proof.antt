@@ -4,14 +4,8 @@ use borrow.Author.Needs.{needs}
 use Rattle.chars.proofs.bytes.peek.Statement.{statement}
 use Rattle.chars.proofs.bytes.peek.Tie as tie
 
-shared-slice-read-result : tie.Need-shared-slice-read-result
-shared-slice-read-result c = search needs
-
-returns : tie.Need-returns
-returns c = search needs
-
-returns-2 : tie.Need-returns-2
-returns-2 c = sym (List·getD-eq-default (c .before .args .text .now) 0 (c .if1 .left))
-
 pub peek-spec : {M : Type 1} → statement M
-peek-spec = tie.close (tie.spec shared-slice-read-result returns returns-2)
+peek-spec = tie.close (tie.spec
+    (λ c. search needs)  -- shared-slice-read-result
+    (λ c. search needs)  -- returns
+    (λ c. sym (List·getD-eq-default (c .before .args .text .now) 0 (c .if1 .left))))  -- returns-2

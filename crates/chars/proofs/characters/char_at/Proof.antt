@@ -10,34 +10,18 @@ use Rattle.chars.proofs.plain.Laws.{plain-read, quote-char}
 use Rattle.chars.proofs.characters.char_at.Statement.{statement}
 use Rattle.chars.proofs.characters.char_at.Tie as tie
 
-peek-requires : tie.Need-peek-requires
-peek-requires c κs = search needs
-
-is-plain-requires : tie.Need-is-plain-requires
-is-plain-requires c κs = search needs
-
-wide-requires : tie.Need-wide-requires
-wide-requires c κs = search needs
-
 -- a plain byte was read
 module _ (c : tie.After-wide) where
   pub byte : charAt (c .before .before .before .before .before .args .text .now) (c .before .before .before .before .before .args .at) ≡ Char (c .wide .result) (c .before .before .before .before .before .args .at + 1)
   byte = plain-read _ _ (c .before .before .before .peek .ensures) (sym (c .before .before .is-plain .ensures) ∙ c .before .if1 .taken) (c .wide .ensures)
 
-add-t6 : tie.Need-add-t6
-add-t6 c = omega (arith, char-next _ _ _ _ (byte c))
-
-returns : tie.Need-returns
-returns c = sym (byte c)
-
-returns-2 : tie.Need-returns-2
-returns-2 c = sym (quote-char _ _ (sym (c .before .before .before .peek .ensures) ∙ c .if2 .taken))
-
-special-requires : tie.Need-special-requires
-special-requires c κs = search needs
-
-returns-3 : tie.Need-returns-3
-returns-3 c = search needs
-
 pub char-at-spec : {M : Type 1} → statement M
-char-at-spec = tie.close (tie.spec peek-requires is-plain-requires wide-requires add-t6 returns returns-2 special-requires returns-3)
+char-at-spec = tie.close (tie.spec
+    (λ c κs. search needs)  -- peek-requires
+    (λ c κs. search needs)  -- is-plain-requires
+    (λ c κs. search needs)  -- wide-requires
+    (λ c. omega (arith, char-next _ _ _ _ (byte c)))  -- add-t6
+    (λ c. sym (byte c))  -- returns
+    (λ c. sym (quote-char _ _ (sym (c .before .before .before .peek .ensures) ∙ c .if2 .taken)))  -- returns-2
+    (λ c κs. search needs)  -- special-requires
+    (λ c. search needs))  -- returns-3

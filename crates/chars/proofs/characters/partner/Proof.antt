@@ -56,121 +56,25 @@ passed₄ c = (passed₃ (c .before .before), rw (← c .before .digit-at2 .ensu
 passed₅ : (c : tie.Else5) → at₅ P₅ c
 passed₅ c = (passed₄ (c .before), rw (← c .before .before .digit-at2 .ensures) (le-leb _ _ (c .if5 .left)))
 
-peek-requires : tie.Need-peek-requires
-peek-requires c κs = search needs
-
-stop-requires : tie.Need-stop-requires
-stop-requires c κs = search needs
-
 returns : tie.Need-returns
 unfolding partnerAt
 returns c = rw (← c .before .before .peek .ensures, ne-eqb _ _ (c .before .if1 .taken)) (c .stop .ensures)
-
-add-peek : tie.Need-add-peek
-add-peek c = search needs
-
-peek-requires-2 : tie.Need-peek-requires-2
-peek-requires-2 c κs = search needs
-
-add-stop : tie.Need-add-stop
-add-stop c = search needs
-
-stop-requires-2 : tie.Need-stop-requires-2
-stop-requires-2 c κs = search needs
 
 returns-2 : tie.Need-returns-2
 unfolding partnerAt
 returns-2 c = let p = passed₁ (c .before .before .before) in rw (p, ← c .before .before .peek2 .ensures, ne-eqb _ _ (c .before .if2 .taken)) (c .stop2 .ensures)
 
-add-digit-at : tie.Need-add-digit-at
-add-digit-at c = search needs
-
-digit-at-requires : tie.Need-digit-at-requires
-digit-at-requires c κs = search needs
-
-add-stop-2 : tie.Need-add-stop-2
-add-stop-2 c = search needs
-
-stop-requires-3 : tie.Need-stop-requires-3
-stop-requires-3 c κs = search needs
-
 returns-3 : tie.Need-returns-3
 unfolding partnerAt
 returns-3 c = let p = passed₂ (c .before .before .before) in rw (p .0, p .1, ← c .before .before .digit-at .ensures, ne-eqb _ _ (c .before .if3 .taken)) (c .stop3 .ensures)
-
-add-digit-at-2 : tie.Need-add-digit-at-2
-add-digit-at-2 c = search needs
-
-digit-at-requires-2 : tie.Need-digit-at-requires-2
-digit-at-requires-2 c κs = search needs
-
-add-stop-3 : tie.Need-add-stop-3
-add-stop-3 c = search needs
-
-stop-requires-4 : tie.Need-stop-requires-4
-stop-requires-4 c κs = search needs
 
 returns-4 : tie.Need-returns-4
 unfolding partnerAt
 returns-4 c = let p = passed₃ (c .before .before .before) in rw (p .0 .0, p .0 .1, p .1, ← c .before .before .digit-at2 .ensures, lt-leb _ _ (c .before .if4 .taken)) (c .stop4 .ensures)
 
-add-stop-4 : tie.Need-add-stop-4
-add-stop-4 c = search needs
-
-stop-requires-5 : tie.Need-stop-requires-5
-stop-requires-5 c κs = search needs
-
 returns-5 : tie.Need-returns-5
 unfolding partnerAt
 returns-5 c = let p = passed₄ (c .before .before) in rw (p .0 .0 .0, p .0 .0 .1, p .0 .1, p .1, ← c .before .before .before .digit-at2 .ensures, lt-leb _ _ (c .before .if5 .taken)) (c .stop5 .ensures)
-
-add-hex-pair : tie.Need-add-hex-pair
-add-hex-pair c = search needs
-
-hex-pair-requires : tie.Need-hex-pair-requires
-hex-pair-requires c κs = search needs
-
-enum-known-place : tie.Need-enum-known-place
-enum-known-place c = search needs
-
-wrong-requires : tie.Need-wrong-requires
-wrong-requires c κs = search needs
-
-enum-known-l : tie.Need-enum-known-l
-enum-known-l c = search needs
-
-wide-requires : tie.Need-wide-requires
-wide-requires c κs = search needs
-
-add-low : tie.Need-add-low
-add-low c = search needs
-
-mul-low : tie.Need-mul-low
-mul-low c = search needs
-
-cast-low : tie.Need-cast-low
-cast-low c = search needs
-
-add-low-2 : tie.Need-add-low-2
-add-low-2 c = search needs
-
-sub-t17 : tie.Need-sub-t17
-sub-t17 c = search needs
-
-mul-t20 : tie.Need-mul-t20
-mul-t20 c = search needs
-
-add-t19 : tie.Need-add-t19
-add-t19 c = search needs
-
-sub-t18 : tie.Need-sub-t18
-sub-t18 c = search needs
-
-add-t21 : tie.Need-add-t21
-add-t21 c = search needs
-
-add-t22 : tie.Need-add-t22
-add-t22 c = search needs
 
 returns-6 : tie.Need-returns-6
 unfolding partnerAt
@@ -183,45 +87,43 @@ returns-7 c = let p = passed₅ (c .before .before .before .before .before) in
     rw (p .0 .0 .0 .0, p .0 .0 .0 .1, p .0 .0 .1, p .0 .1, p .1, ← c .before .before .before .before .hex-pair .ensures, c .before .before .l .given .1, c .wide .ensures, c .before .before .before .before .before .before .before .digit-at2 .ensures)
 
 pub partner-spec : {M : Type 1} → statement M
-partner-spec =
-    tie.close
-    (tie.spec
-    peek-requires
-    stop-requires
+partner-spec = tie.close (tie.spec
+    (λ c κs. search needs)  -- peek-requires
+    (λ c κs. search needs)  -- stop-requires
     returns
-    add-peek
-    peek-requires-2
-    add-stop
-    stop-requires-2
+    (λ c. search needs)  -- add-peek
+    (λ c κs. search needs)  -- peek-requires-2
+    (λ c. search needs)  -- add-stop
+    (λ c κs. search needs)  -- stop-requires-2
     returns-2
-    add-digit-at
-    digit-at-requires
-    add-stop-2
-    stop-requires-3
+    (λ c. search needs)  -- add-digit-at
+    (λ c κs. search needs)  -- digit-at-requires
+    (λ c. search needs)  -- add-stop-2
+    (λ c κs. search needs)  -- stop-requires-3
     returns-3
-    add-digit-at-2
-    digit-at-requires-2
-    add-stop-3
-    stop-requires-4
+    (λ c. search needs)  -- add-digit-at-2
+    (λ c κs. search needs)  -- digit-at-requires-2
+    (λ c. search needs)  -- add-stop-3
+    (λ c κs. search needs)  -- stop-requires-4
     returns-4
-    add-stop-4
-    stop-requires-5
+    (λ c. search needs)  -- add-stop-4
+    (λ c κs. search needs)  -- stop-requires-5
     returns-5
-    add-hex-pair
-    hex-pair-requires
-    enum-known-place
-    wrong-requires
-    enum-known-l
-    wide-requires
-    add-low
-    mul-low
-    cast-low
-    add-low-2
-    sub-t17
-    mul-t20
-    add-t19
-    sub-t18
-    add-t21
-    add-t22
+    (λ c. search needs)  -- add-hex-pair
+    (λ c κs. search needs)  -- hex-pair-requires
+    (λ c. search needs)  -- enum-known-place
+    (λ c κs. search needs)  -- wrong-requires
+    (λ c. search needs)  -- enum-known-l
+    (λ c κs. search needs)  -- wide-requires
+    (λ c. search needs)  -- add-low
+    (λ c. search needs)  -- mul-low
+    (λ c. search needs)  -- cast-low
+    (λ c. search needs)  -- add-low-2
+    (λ c. search needs)  -- sub-t17
+    (λ c. search needs)  -- mul-t20
+    (λ c. search needs)  -- add-t19
+    (λ c. search needs)  -- sub-t18
+    (λ c. search needs)  -- add-t21
+    (λ c. search needs)  -- add-t22
     returns-6
     returns-7)

@@ -13,36 +13,6 @@ use Rattle.chars.proofs.characters.special.Tie as tie
 within : (c : tie.After-peek) → 0 < c .peek .result → c .before .before .args .at < length (c .before .before .args .text .now)
 within c h = in-text (c .before .before .args .text .now) (c .before .before .args .at) (omega arith)
 
-peek-requires : tie.Need-peek-requires
-peek-requires c κs = search needs
-
-escape-requires : tie.Need-escape-requires
-escape-requires c κs = omega (arith, within (c .before) (omega arith))
-
-stop-requires : tie.Need-stop-requires
-stop-requires c κs = search needs
-
-wide-requires : tie.Need-wide-requires
-wide-requires c κs = search needs
-
-add-t9 : tie.Need-add-t9
-add-t9 c = omega (arith, within (c .before .before .before .before) (omega arith))
-
-stop-requires-2 : tie.Need-stop-requires-2
-stop-requires-2 c κs = search needs
-
-two-requires : tie.Need-two-requires
-two-requires c κs = omega (arith, within (c .before .before .before .before .before) (omega arith))
-
-three-requires : tie.Need-three-requires
-three-requires c κs = omega (arith, within (c .before .before .before .before .before .before) (omega arith))
-
-four-requires : tie.Need-four-requires
-four-requires c κs = omega (arith, within (c .before .before .before .before .before .before .before) (omega arith))
-
-stop-requires-3 : tie.Need-stop-requires-3
-stop-requires-3 c κs = search needs
-
 returns : tie.Need-returns
 unfolding charAt charFrom
 returns c = rw (← c .before .peek .ensures, c .match .keys1)
@@ -80,19 +50,17 @@ unfolding charAt charFrom
 returns-9 c = let r = c .before .before .before .before .before .before .before .before .peek .result in rw (← c .before .before .before .before .before .before .before .before .peek .ensures, ne-eqb r 34 (c .before .before .before .before .before .before .before .match .rest .0 .1), ne-eqb r 92 (c .before .before .before .before .before .before .before .match .rest .1), le-ltb r 0x20 (omega arith), le-ltb r 0x80 (omega arith), le-ltb r 0xC2 (omega arith), le-ltb r 0xE0 (omega arith), le-ltb r 0xF0 (omega arith), le-ltb r 0xF5 (omega arith)) (c .stop3 .ensures)
 
 pub special-spec : {M : Type 1} → statement M
-special-spec =
-    tie.close
-    (tie.spec
-    peek-requires
-    escape-requires
-    stop-requires
-    wide-requires
-    add-t9
-    stop-requires-2
-    two-requires
-    three-requires
-    four-requires
-    stop-requires-3
+special-spec = tie.close (tie.spec
+    (λ c κs. search needs)  -- peek-requires
+    (λ c κs. omega (arith, within (c .before) (omega arith)))  -- escape-requires
+    (λ c κs. search needs)  -- stop-requires
+    (λ c κs. search needs)  -- wide-requires
+    (λ c. omega (arith, within (c .before .before .before .before) (omega arith)))  -- add-t9
+    (λ c κs. search needs)  -- stop-requires-2
+    (λ c κs. omega (arith, within (c .before .before .before .before .before) (omega arith)))  -- two-requires
+    (λ c κs. omega (arith, within (c .before .before .before .before .before .before) (omega arith)))  -- three-requires
+    (λ c κs. omega (arith, within (c .before .before .before .before .before .before .before) (omega arith)))  -- four-requires
+    (λ c κs. search needs)  -- stop-requires-3
     returns
     returns-2
     returns-3

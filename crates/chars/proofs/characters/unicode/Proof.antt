@@ -6,27 +6,6 @@ use borrow.Author.Needs.{needs}
 use Rattle.chars.proofs.characters.unicode.Statement.{statement}
 use Rattle.chars.proofs.characters.unicode.Tie as tie
 
-add-hex-pair : tie.Need-add-hex-pair
-add-hex-pair c = search needs
-
-hex-pair-requires : tie.Need-hex-pair-requires
-hex-pair-requires c κs = search needs
-
-enum-known-place : tie.Need-enum-known-place
-enum-known-place c = search needs
-
-wrong-requires : tie.Need-wrong-requires
-wrong-requires c κs = search needs
-
-enum-known-first : tie.Need-enum-known-first
-enum-known-first c = search needs
-
-add-t10 : tie.Need-add-t10
-add-t10 c = search needs
-
-rest-requires : tie.Need-rest-requires
-rest-requires c κs = search needs
-
 returns : tie.Need-returns
 unfolding unicodeAt
 returns c = rw (← c .before .before .before .before .hex-pair .ensures, c .before .before .place .given .1) (c .wrong .ensures)
@@ -41,16 +20,14 @@ returns-3 c = ⊎-elim (λ w. rw (← c .before .before .before .before .before 
     (λ w. rw (← c .before .before .before .before .before .hex-pair .ensures, c .before .before .before .first .given .1, le-leb _ _ (w .0 .left), lt-leb _ _ (w .1 .left)) (c .rest .ensures)) (c .before .if1 .came)
 
 pub unicode-spec : {M : Type 1} → statement M
-unicode-spec =
-    tie.close
-    (tie.spec
-    add-hex-pair
-    hex-pair-requires
-    enum-known-place
-    wrong-requires
-    enum-known-first
-    add-t10
-    rest-requires
+unicode-spec = tie.close (tie.spec
+    (λ c. search needs)  -- add-hex-pair
+    (λ c κs. search needs)  -- hex-pair-requires
+    (λ c. search needs)  -- enum-known-place
+    (λ c κs. search needs)  -- wrong-requires
+    (λ c. search needs)  -- enum-known-first
+    (λ c. search needs)  -- add-t10
+    (λ c κs. search needs)  -- rest-requires
     returns
     returns-2
     returns-3)

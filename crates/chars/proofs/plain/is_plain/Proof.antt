@@ -5,25 +5,15 @@ use Rattle.chars.specs.Plain.{isPlain}
 use Rattle.chars.proofs.plain.is_plain.Statement.{statement}
 use Rattle.chars.proofs.plain.is_plain.Tie as tie
 
-returns : tie.Need-returns
-unfolding isPlain
-returns c = rw (c .match .keys1)
-
-returns-2 : tie.Need-returns-2
-unfolding isPlain
-returns-2 c = rw (c .match .keys2)
-
 returns-3 : tie.Need-returns-3
 unfolding isPlain
 returns-3 c = let b = c .before .before .before .args .b in rw (le-leb 0x20 b (omega arith), lt-ltb b 0x80 (omega arith), ne-eqb b 0x22 (c .before .before .match .rest .0 .1), ne-eqb b 0x5C (c .before .before .match .rest .1))
 
-returns-4 : tie.Need-returns-4
-unfolding isPlain
-returns-4 c = rw (lt-leb 0x20 (c .before .before .args .b) (omega arith))
-
-returns-5 : tie.Need-returns-5
-unfolding isPlain
-returns-5 c = let b = c .before .before .before .args .b in rw (le-leb 0x20 b (omega arith), le-ltb b 0x80 (omega arith))
-
 pub is-plain-spec : {M : Type 1} → statement M
-is-plain-spec = tie.close (tie.spec returns returns-2 returns-3 returns-4 returns-5)
+unfolding isPlain
+is-plain-spec = tie.close (tie.spec
+    (λ c. rw (c .match .keys1))  -- returns
+    (λ c. rw (c .match .keys2))  -- returns-2
+    returns-3
+    (λ c. rw (lt-leb 0x20 (c .before .before .args .b) (omega arith)))  -- returns-4
+    (λ c. let b = c .before .before .before .args .b in rw (le-leb 0x20 b (omega arith), le-ltb b 0x80 (omega arith))))  -- returns-5

@@ -29,29 +29,11 @@ right c = now (c .args .b)
 abbrev SameAt : tie.Start Inv-loop μ-loop → ℕ → Type 0
 SameAt c k = getD (left c) k 0 ≡ getD (right c) k 0
 
-returns : tie.Need-returns Inv-loop μ-loop
-returns c = let d = c .before in sym (other-of (left d) (right d) (λ e. c .if1 .taken (sym (ap length e))))
-
-loop-holds : tie.Need-loop-holds Inv-loop μ-loop
-loop-holds c = search needs
-
-shared-slice-read-if2 : tie.Need-shared-slice-read-if2 Inv-loop μ-loop
-shared-slice-read-if2 c = search needs
-
-shared-slice-read-if2-2 : tie.Need-shared-slice-read-if2-2 Inv-loop μ-loop
-shared-slice-read-if2-2 c = search needs
-
 returns-2 : tie.Need-returns-2 Inv-loop μ-loop
 returns-2 c =
     let l = c .before .before .before .before in
     let d = l .before .before in
     sym (other-of (left d) (right d) (λ e. c .if2 .taken (ap (λ (s : List ℕ). getD s (l .loop .i) 0) e)))
-
-add-i : tie.Need-add-i Inv-loop μ-loop
-add-i c = search needs
-
-loop-less : tie.Need-loop-less Inv-loop μ-loop
-loop-less c = search needs
 
 loop-again : tie.Need-loop-again Inv-loop μ-loop
 loop-again c = (search needs, below-more (SameAt (c .before .before .before .before .before .before)) _ (c .before .before .before .before .loop .inv .1) (c .if2 .left))
@@ -60,17 +42,13 @@ returns-3 : tie.Need-returns-3 Inv-loop μ-loop
 returns-3 c = let d = c .before .before .before in sym (same-of (left d) (right d) (ext-getD 0 (left d) (right d) (omega arith) (λ k l. c .before .loop .inv .1 k (omega arith))))
 
 pub equal-spec : {M : Type 1} → statement M
-equal-spec =
-    tie.close
-    (tie.spec
-    Inv-loop
-    μ-loop
-    returns
-    loop-holds
-    shared-slice-read-if2
-    shared-slice-read-if2-2
+equal-spec = tie.close (tie.spec Inv-loop μ-loop
+    (λ c. let d = c .before in sym (other-of (left d) (right d) (λ e. c .if1 .taken (sym (ap length e)))))  -- returns
+    (λ c. search needs)  -- loop-holds
+    (λ c. search needs)  -- shared-slice-read-if2
+    (λ c. search needs)  -- shared-slice-read-if2-2
     returns-2
-    add-i
-    loop-less
+    (λ c. search needs)  -- add-i
+    (λ c. search needs)  -- loop-less
     loop-again
     returns-3)

@@ -19,21 +19,6 @@ Inv-loop a b a' b' i₀ j₀ i j = same (characters a) (characters b) ≡ same (
 abbrev μ-loop : tie.MeasureT-loop
 μ-loop a b a' b' i₀ j₀ i j = length a' - i
 
-loop-holds : tie.Need-loop-holds Inv-loop μ-loop
-loop-holds c = refl
-
-char-at-requires : tie.Need-char-at-requires Inv-loop μ-loop
-char-at-requires c κs = search needs
-
-enum-known-x : tie.Need-enum-known-x Inv-loop μ-loop
-enum-known-x c = search needs
-
-char-at-requires-2 : tie.Need-char-at-requires-2 Inv-loop μ-loop
-char-at-requires-2 c κs = search needs
-
-enum-known-y : tie.Need-enum-known-y Inv-loop μ-loop
-enum-known-y c = search needs
-
 -- the loop, where both have a character, and the entry
 abbrev turn : tie.After-known-told2 Inv-loop μ-loop → tie.At-loop Inv-loop μ-loop
 turn c = c .before .before .before .before .before .before .before .before
@@ -52,20 +37,11 @@ module _ (c : tie.After-known-told2 Inv-loop μ-loop) where
 returns : tie.Need-returns Inv-loop μ-loop
 returns c = sym (turn (c .before) .loop .inv ∙ differ (chars-char _ _ _ _ (left (c .before))) (chars-char _ _ _ _ (right (c .before))) (c .if1 .taken))
 
-loop-less : tie.Need-loop-less Inv-loop μ-loop
-loop-less c = omega (arith, char-next _ _ _ _ (left (c .before)))
-
 loop-again : tie.Need-loop-again Inv-loop μ-loop
 loop-again c = turn (c .before) .loop .inv ∙ alike (chars-char _ _ _ _ (left (c .before))) (chars-char _ _ _ _ (right (c .before))) (c .if1 .left)
 
 returns-2 : tie.Need-returns-2 Inv-loop μ-loop
 returns-2 c = sym (c .before .before .before .before .before .before .loop .inv ∙ longer (chars-char _ _ _ _ (sym (c .before .before .before .before .before .char-at .ensures) ∙ c .before .before .before .x .given .1)) (chars-none _ _ _ (c .before .char-at2 .ensures) (c .match2 .keys2)))
-
-char-at-requires-3 : tie.Need-char-at-requires-3 Inv-loop μ-loop
-char-at-requires-3 c κs = search needs
-
-enum-told : tie.Need-enum-told Inv-loop μ-loop
-enum-told c = search needs
 
 returns-3 : tie.Need-returns-3 Inv-loop μ-loop
 returns-3 c = sym (c .before .before .before .before .before .loop .inv ∙ shorter (chars-none _ _ _ (c .before .before .before .before .char-at .ensures) (c .before .before .before .match .keys2)) (chars-char _ _ _ _ (sym (c .before .before .char-at3 .ensures) ∙ c .enum-told .given .1)))
@@ -74,21 +50,17 @@ returns-4 : tie.Need-returns-4 Inv-loop μ-loop
 returns-4 c = sym (c .before .before .before .before .loop .inv ∙ ended (chars-none _ _ _ (c .before .before .before .char-at .ensures) (c .before .before .match .keys2)) (chars-none _ _ _ (c .before .char-at3 .ensures) (c .match3 .keys2)))
 
 pub same-characters-spec : {M : Type 1} → statement M
-same-characters-spec =
-    tie.close
-    (tie.spec
-    Inv-loop
-    μ-loop
-    loop-holds
-    char-at-requires
-    enum-known-x
-    char-at-requires-2
-    enum-known-y
+same-characters-spec = tie.close (tie.spec Inv-loop μ-loop
+    (λ c. refl)  -- loop-holds
+    (λ c κs. search needs)  -- char-at-requires
+    (λ c. search needs)  -- enum-known-x
+    (λ c κs. search needs)  -- char-at-requires-2
+    (λ c. search needs)  -- enum-known-y
     returns
-    loop-less
+    (λ c. omega (arith, char-next _ _ _ _ (left (c .before))))  -- loop-less
     loop-again
     returns-2
-    char-at-requires-3
-    enum-told
+    (λ c κs. search needs)  -- char-at-requires-3
+    (λ c. search needs)  -- enum-told
     returns-3
     returns-4)

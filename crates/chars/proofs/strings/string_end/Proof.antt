@@ -8,7 +8,7 @@ use Rattle.chars.specs.declared.characters.Step.the-variants.{Char, Quot
 use Rattle.chars.specs.Characters.{charAt}
 use Rattle.chars.specs.Strings.{stringAt}
 use Rattle.chars.specs.Plain.{isPlain}
-use Rattle.chars.proofs.space.Laws.{run-from}
+use Rattle.chars.proofs.Runs.{run-from}
 use Rattle.chars.proofs.strings.Laws.{char-next, quote-in, string-char, string-quote, string-stop}
 use Rattle.chars.proofs.plain.Laws.{quote-char, plain-string}
 use Rattle.chars.proofs.strings.string_end.Statement.{statement}
@@ -19,18 +19,6 @@ Inv-loop text at i₀ i = stringAt text at ≡ stringAt text i
 
 abbrev μ-loop : tie.MeasureT-loop
 μ-loop text at i₀ i = length text - i
-
-loop-holds : tie.Need-loop-holds Inv-loop μ-loop
-loop-holds c = refl
-
-plain-requires : tie.Need-plain-requires Inv-loop μ-loop
-plain-requires c κs = search needs
-
-wides-requires : tie.Need-wides-requires Inv-loop μ-loop
-wides-requires c κs = search needs
-
-peek-requires : tie.Need-peek-requires Inv-loop μ-loop
-peek-requires c κs = search needs
 
 -- a run of plain bytes was passed
 module _ (c : tie.After-plain Inv-loop μ-loop) where
@@ -53,67 +41,33 @@ module _ (c : tie.Then1 Inv-loop μ-loop) where
   closed : charAt (c .before .before .before .before .before .before .args .text .now) (c .before .before .wides .result) ≡ Quote
   closed = quote-char _ _ (sym (c .before .peek .ensures) ∙ c .if1 .taken)
 
-add-t10 : tie.Need-add-t10 Inv-loop μ-loop
-add-t10 c = omega (arith, quote-in _ _ (closed c))
-
-returns : tie.Need-returns Inv-loop μ-loop
-returns c = sym (passed (c .before .before) ∙ string-quote _ _ (closed c))
-
-special-requires : tie.Need-special-requires Inv-loop μ-loop
-special-requires c κs = search needs
-
-enum-known-next : tie.Need-enum-known-next Inv-loop μ-loop
-enum-known-next c = search needs
-
 -- a character was read
 module _ (c : tie.After-known-told Inv-loop μ-loop) where
   found : charAt (c .before .before .before .before .before .before .before .before .before .before .args .text .now) (c .before .before .before .before .before .before .wides .result) ≡ Char (c .before .next .given .0 .0) (c .before .next .given .0 .1 .0)
   found = sym (c .before .before .before .special .ensures) ∙ c .before .next .given .1
-
-loop-less : tie.Need-loop-less Inv-loop μ-loop
-loop-less c = omega (arith, ahead (c .before .before .before .before .before .before), char-next _ _ _ _ (found c))
-
-loop-again : tie.Need-loop-again Inv-loop μ-loop
-loop-again c = passed (c .before .before .before .before .before .before) ∙ string-char _ _ _ _ (found c)
-
-enum-told : tie.Need-enum-told Inv-loop μ-loop
-enum-told c = search needs
 
 -- the quote, as `special` tells it
 module _ (c : tie.After-enum-told Inv-loop μ-loop) where
   quoted : charAt (c .before .before .before .before .before .before .before .before .before .args .text .now) (c .before .before .before .before .before .wides .result) ≡ Quote
   quoted = sym (c .before .before .special .ensures) ∙ c .enum-told .given .1
 
-add-t12 : tie.Need-add-t12 Inv-loop μ-loop
-add-t12 c = omega (arith, quote-in _ _ (quoted c))
-
-returns-2 : tie.Need-returns-2 Inv-loop μ-loop
-returns-2 c = sym (passed (c .before .before .before .before .before) ∙ string-quote _ _ (quoted c))
-
-enum-known-code : tie.Need-enum-known-code Inv-loop μ-loop
-enum-known-code c = search needs
-
 returns-3 : tie.Need-returns-3 Inv-loop μ-loop
 returns-3 c = sym (passed (c .before .before .before .before .before .before) ∙ string-stop _ _ _ _ (sym (c .before .before .before .special .ensures) ∙ c .before .code .given .1))
 
 pub string-end-spec : {M : Type 1} → statement M
-string-end-spec =
-    tie.close
-    (tie.spec
-    Inv-loop
-    μ-loop
-    loop-holds
-    plain-requires
-    wides-requires
-    peek-requires
-    add-t10
-    returns
-    special-requires
-    enum-known-next
-    loop-less
-    loop-again
-    enum-told
-    add-t12
-    returns-2
-    enum-known-code
+string-end-spec = tie.close (tie.spec Inv-loop μ-loop
+    (λ c. refl)  -- loop-holds
+    (λ c κs. search needs)  -- plain-requires
+    (λ c κs. search needs)  -- wides-requires
+    (λ c κs. search needs)  -- peek-requires
+    (λ c. omega (arith, quote-in _ _ (closed c)))  -- add-t10
+    (λ c. sym (passed (c .before .before) ∙ string-quote _ _ (closed c)))  -- returns
+    (λ c κs. search needs)  -- special-requires
+    (λ c. search needs)  -- enum-known-next
+    (λ c. omega (arith, ahead (c .before .before .before .before .before .before), char-next _ _ _ _ (found c)))  -- loop-less
+    (λ c. passed (c .before .before .before .before .before .before) ∙ string-char _ _ _ _ (found c))  -- loop-again
+    (λ c. search needs)  -- enum-told
+    (λ c. omega (arith, quote-in _ _ (quoted c)))  -- add-t12
+    (λ c. sym (passed (c .before .before .before .before .before) ∙ string-quote _ _ (quoted c)))  -- returns-2
+    (λ c. search needs)  -- enum-known-code
     returns-3)

@@ -14,23 +14,14 @@ Inv-loop text at i₀ i = (at ≤ i) × (stringAt text i ≡ stringAt text at)
 abbrev μ-loop : tie.MeasureT-loop
 μ-loop text at i₀ i = length text - i
 
-loop-holds : tie.Need-loop-holds Inv-loop μ-loop
-loop-holds c = (omega arith, refl)
-
-wide-end-requires : tie.Need-wide-end-requires Inv-loop μ-loop
-wide-end-requires c κs = omega arith
-
-returns : tie.Need-returns Inv-loop μ-loop
-returns c = c .before .before .before .loop .inv
-
-loop-less : tie.Need-loop-less Inv-loop μ-loop
-loop-less c = omega (arith, wide-ahead _ _ _ (c .before .wide-end .ensures) (c .if1 .left))
-
 loop-again : tie.Need-loop-again Inv-loop μ-loop
 loop-again c = (omega (arith, wide-ahead _ _ _ (c .before .wide-end .ensures) (c .if1 .left), c .before .before .before .loop .inv .0), wide-string _ _ _ (c .before .wide-end .ensures) ∙ c .before .before .before .loop .inv .1)
 
-returns-2 : tie.Need-returns-2 Inv-loop μ-loop
-returns-2 c = c .before .loop .inv
-
 pub wides-spec : {M : Type 1} → statement M
-wides-spec = tie.close (tie.spec Inv-loop μ-loop loop-holds wide-end-requires returns loop-less loop-again returns-2)
+wides-spec = tie.close (tie.spec Inv-loop μ-loop
+    (λ c. (omega arith, refl))  -- loop-holds
+    (λ c κs. omega arith)  -- wide-end-requires
+    (λ c. c .before .before .before .loop .inv)  -- returns
+    (λ c. omega (arith, wide-ahead _ _ _ (c .before .wide-end .ensures) (c .if1 .left)))  -- loop-less
+    loop-again
+    (λ c. c .before .loop .inv))  -- returns-2

@@ -19,8 +19,8 @@ use ghost.Atoms.{Atoms, sem}
 use contract.Monad.{Fun}
 use contract.Running.{givenOf, tables, tablesOf}
 use types.Kit.{Given, atRet, ‵, raw, _⊛_, some, later, _$_, _∵_, !, qed, by, move, keep, drop, use1, use2, split, join, pick, rewrite, fsplit, fjoin, fpick, suffices, frame, await, done}
-use types.Run.{look, init, forget, stop, fld, from, load, lit, of-opd, bin, addr, assigns, and-then, no-more}
-use types.Run.{land, first, branches, skips, exec, returns-within, returns, enter, alloc1, alloc0, params1, pass1, pass0, free1, free0}
+use types.Run.{look, init, forget, stop, fld, from, load, lit, of-opd, bin, addr, assigns, and-then, no-more, land, first, branches, skips}
+use types.Run.{exec, returns-within, returns, enter, alloc1, alloc0, params1, pass1, pass0, free1, free0}
 use types.Part.{whole, sub, look-in}
 use types.Tokens.{lft-new, lft-end, lent-back}
 use types.SemTy.{Body}

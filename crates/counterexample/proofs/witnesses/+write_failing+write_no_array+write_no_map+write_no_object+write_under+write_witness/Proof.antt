@@ -9,17 +9,17 @@ use borrow.Fn.Kinds.{In}
 use borrow.Fn.PlainCycle.{Measures, is, falls, and}
 use lib.ListN.{length, set}
 use Rattle.model.specs.Witness.{sample, beyondNamed}
-use Rattle.reader.specs.Holding.{word}
-use Rattle.schema.specs.declared.names.Generic.{Generic}
-use Rattle.schema.proofs.Trees.{in-table, quotes-read}
+use Rattle.syntax.specs.Holding.{word}
+use Rattle.definitions.specs.declared.types.Generic.{Generic}
+use Rattle.rows.proofs.Facts.{in-table, quotes-read}
 use Rattle.counterexample.specs.Writing.{WitnessTo}
 use Rattle.samples.proofs.Lent.{putBack, wrote, wrote-one, last-same}
 use Rattle.counterexample.proofs.witnesses.Laws.{newOf, witnessOf, sample-ready, sample-written, beyond-ready, beyond-written, to-name}
-use Rattle.counterexample.proofs.witnesses.Laws.{Around, around-fits, Opened, Filled, opened, inner-ready, filled, closed}
-use Rattle.counterexample.proofs.witnesses.Laws.{array-sample, array-around, mapOpening, map-sample, map-beyond, map-around}
-use Rattle.counterexample.proofs.witnesses.Laws.{object-sample, Field, field, member-ready, member-written}
-use Rattle.counterexample.proofs.witnesses.Laws.{Named, Valued, Complete, name-ready, under-lent, others-lent, behind-name, behind-value, behind-others, member-closed}
-use Rattle.counterexample.proofs.witnesses.Laws.{under-ready, under-witness, null-fits, under-null}
+use Rattle.counterexample.proofs.witnesses.Laws.{Around, around-fits, Opened, Filled, opened, inner-ready, filled, closed, array-sample}
+use Rattle.counterexample.proofs.witnesses.Laws.{array-around, mapOpening, map-sample, map-beyond, map-around, object-sample, Field}
+use Rattle.counterexample.proofs.witnesses.Laws.{field, member-ready, member-written, Named, Valued, Complete, name-ready, under-lent}
+use Rattle.counterexample.proofs.witnesses.Laws.{others-lent, behind-name, behind-value, behind-others, member-closed, under-ready}
+use Rattle.counterexample.proofs.witnesses.Laws.{under-witness, null-fits, under-null}
 use Rattle.counterexample.proofs.witnesses.write_failing.Reads as write-failing
 use Rattle.counterexample.proofs.witnesses.write_failing.Kinds as write-failing-kinds
 use Rattle.counterexample.proofs.witnesses.+write_failing+write_no_array+write_no_map+write_no_object+write_under+write_witness.Lts-write_failing as write-failing-lts
@@ -44,9 +44,9 @@ use Rattle.samples.proofs.write_name.Reads as write-name-reads
 use Rattle.samples.proofs.write_others.Reads as write-others-reads
 use Rattle.samples.proofs.write_sample.Reads as write-sample-reads
 use Rattle.counterexample.proofs.witnesses.failing_name.Reads as failing-name-reads
-use Rattle.schema.proofs.find_under.Reads as find-under-reads
-use Rattle.schema.proofs.generic_at.Reads as generic-at-reads
-use Rattle.schema.proofs.row_at.Reads as row-at-reads
+use Rattle.comparison.proofs.find_under.Reads as find-under-reads
+use Rattle.definitions.proofs.generic_at.Reads as generic-at-reads
+use Rattle.rows.proofs.row_at.Reads as row-at-reads
 use Rattle.counterexample.proofs.witnesses.+write_failing+write_no_array+write_no_map+write_no_object+write_under+write_witness.{
   statement,
 }

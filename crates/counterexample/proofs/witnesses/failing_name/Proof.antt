@@ -8,13 +8,14 @@ use lib.ListN.{length}
 use mir.Syntax.{w64}
 use mir.Val.{Fits}
 use Rattle.model.specs.Text.{text}
-use Rattle.chars.specs.Spelling.{IsQuoted}
-use Rattle.reader.specs.Holding.{word}
-use Rattle.schema.specs.Walking.{InTable, Finds}
-use Rattle.schema.specs.Comparing.{OfObjectsRow}
-use Rattle.schema.proofs.Words.{plain}
-use Rattle.schema.proofs.Trees.{in-table, as-row, quotes-read}
-use Rattle.schema.proofs.Carries.{object-row, required-pair, optional-pair}
+use Rattle.tokens.specs.Spelling.{IsQuoted}
+use Rattle.syntax.specs.Holding.{word}
+use Rattle.rows.specs.Records.{InTable}
+use Rattle.rows.specs.Finding.{Finds}
+use Rattle.definitions.specs.Shapes.{OfObjectsRow}
+use Rattle.definitions.proofs.Facts.{spelled}
+use Rattle.rows.proofs.Facts.{in-table, as-row, quotes-read}
+use Rattle.comparison.proofs.Facts.{object-row, required-pair, optional-pair}
 use Rattle.counterexample.proofs.witnesses.Names.{failing-at, name-other, name-required, name-lacking, name-optional}
 use Rattle.counterexample.proofs.witnesses.failing_name.Statement.{statement}
 use Rattle.counterexample.proofs.witnesses.failing_name.Tie as tie
@@ -36,12 +37,12 @@ objects c = rw (not-false (c .before .of-objects .result) (c .if1 .left)) at (c 
 required : (c : tie.After-find) →
     let a = entry (c .before .before) .args in
     Finds (a .old .now) (a .rows2 .now) (a .b + 2) (text "required") (c .find .result)
-required c = rw (plain .required) at (c .find .ensures)
+required c = rw (spelled .required) at (c .find .ensures)
 
 optional : (c : tie.After-find2) →
     let a = entry (c .before .before .before .before .before .before) .args in
     Finds (a .old .now) (a .rows2 .now) (a .b + 2) (text "optional") (c .find2 .result)
-optional c = rw (plain .optional) at (c .find2 .ensures)
+optional c = rw (spelled .optional) at (c .find2 .ensures)
 
 -- a required field fails: its name
 named : (c : tie.Then2) →

@@ -41,47 +41,14 @@ claims t = (
 )
 
 module _ (t : ℕ) where
-  read-whole-requires : read-whole-lts.Need-read-whole-requires (claims t) (at t) read-whole.Post
-  read-whole-requires c κs = (omega (arith, c .before .if1 .taken), c .before .before .before .before .pre .1)
-
-  same-length : read-whole-lts.Need-same-length (claims t) (at t) read-whole.Post
-  same-length c = c .before .before .read-whole .kept .1 .1 .0
-
   returns : read-whole-lts.Need-returns (claims t) (at t) read-whole.Post
   returns c = rw (min-eq-right (le-of-lt (c .before .before .before .before .if1 .taken))) (c .before .before .read-whole .ensures)
-
-  read-128-requires : read-whole-lts.Need-read-128-requires (claims t) (at t) read-whole.Post
-  read-128-requires c κs = (c .before .if2 .taken, c .before .before .if1 .left)
-
-  same-length-2 : read-whole-lts.Need-same-length-2 (claims t) (at t) read-whole.Post
-  same-length-2 c = c .before .before .read-128 .kept .1 .1 .0
-
-  returns-2 : read-whole-lts.Need-returns-2 (claims t) (at t) read-whole.Post
-  returns-2 c = rw (min-eq-left (c .before .before .before .before .before .if1 .left)) (c .before .before .read-128 .ensures)
-
-  read-1024-requires : read-whole-lts.Need-read-1024-requires (claims t) (at t) read-whole.Post
-  read-1024-requires c κs = (c .before .if3 .taken, c .before .before .before .if1 .left)
-
-  same-length-3 : read-whole-lts.Need-same-length-3 (claims t) (at t) read-whole.Post
-  same-length-3 c = c .before .before .read-1024 .kept .1 .1 .0
 
   returns-3 : read-whole-lts.Need-returns-3 (claims t) (at t) read-whole.Post
   returns-3 c = rw (min-eq-left (c .before .before .before .before .before .before .if1 .left)) (c .before .before .read-1024 .ensures)
 
-  read-8192-requires : read-whole-lts.Need-read-8192-requires (claims t) (at t) read-whole.Post
-  read-8192-requires c κs = (c .before .if4 .taken, c .before .before .before .before .if1 .left)
-
-  same-length-4 : read-whole-lts.Need-same-length-4 (claims t) (at t) read-whole.Post
-  same-length-4 c = c .before .before .read-8192 .kept .1 .1 .0
-
   returns-4 : read-whole-lts.Need-returns-4 (claims t) (at t) read-whole.Post
   returns-4 c = rw (min-eq-left (c .before .before .before .before .before .before .before .if1 .left)) (c .before .before .read-8192 .ensures)
-
-  read-32768-requires : read-whole-lts.Need-read-32768-requires (claims t) (at t) read-whole.Post
-  read-32768-requires c κs = (c .before .if5 .taken, c .before .before .before .before .before .if1 .left)
-
-  same-length-5 : read-whole-lts.Need-same-length-5 (claims t) (at t) read-whole.Post
-  same-length-5 c = c .before .before .read-32768 .kept .1 .1 .0
 
   returns-5 : read-whole-lts.Need-returns-5 (claims t) (at t) read-whole.Post
   returns-5 c = rw (min-eq-left (c .before .before .before .before .before .before .before .before .if1 .left)) (c .before .before .read-32768 .ensures)
@@ -89,30 +56,26 @@ module _ (t : ℕ) where
   read-65536-requires : read-whole-lts.Need-read-65536-requires (claims t) (at t) read-whole.Post
   read-65536-requires c κs = (c .before .before .before .before .before .before .before .before .pre .1, c .before .before .before .before .before .if1 .left)
 
-  same-length-6 : read-whole-lts.Need-same-length-6 (claims t) (at t) read-whole.Post
-  same-length-6 c = c .before .before .read-65536 .kept .1 .1 .0
-
   returns-6 : read-whole-lts.Need-returns-6 (claims t) (at t) read-whole.Post
   returns-6 c = rw (min-eq-left (c .before .before .before .before .before .before .before .before .if1 .left)) (c .before .before .read-65536 .ensures)
 
 pub +read-whole-spec : {M : Type 1} → statement M
-+read-whole-spec = close μ-read-whole λ t. read-whole-lts.spec (claims t) (at t)
-    read-whole.Post
-    (read-whole-requires t)
-    (same-length t)
++read-whole-spec = close μ-read-whole λ t. read-whole-lts.spec (claims t) (at t) read-whole.Post
+    (λ c κs. (omega (arith, c .before .if1 .taken), c .before .before .before .before .pre .1))  -- read-whole-requires
+    (λ c. c .before .before .read-whole .kept .1 .1 .0)  -- same-length
     (returns t)
-    (read-128-requires t)
-    (same-length-2 t)
-    (returns-2 t)
-    (read-1024-requires t)
-    (same-length-3 t)
+    (λ c κs. (c .before .if2 .taken, c .before .before .if1 .left))  -- read-128-requires
+    (λ c. c .before .before .read-128 .kept .1 .1 .0)  -- same-length-2
+    (λ c. rw (min-eq-left (c .before .before .before .before .before .if1 .left)) (c .before .before .read-128 .ensures))  -- returns-2
+    (λ c κs. (c .before .if3 .taken, c .before .before .before .if1 .left))  -- read-1024-requires
+    (λ c. c .before .before .read-1024 .kept .1 .1 .0)  -- same-length-3
     (returns-3 t)
-    (read-8192-requires t)
-    (same-length-4 t)
+    (λ c κs. (c .before .if4 .taken, c .before .before .before .before .if1 .left))  -- read-8192-requires
+    (λ c. c .before .before .read-8192 .kept .1 .1 .0)  -- same-length-4
     (returns-4 t)
-    (read-32768-requires t)
-    (same-length-5 t)
+    (λ c κs. (c .before .if5 .taken, c .before .before .before .before .before .if1 .left))  -- read-32768-requires
+    (λ c. c .before .before .read-32768 .kept .1 .1 .0)  -- same-length-5
     (returns-5 t)
     (read-65536-requires t)
-    (same-length-6 t)
+    (λ c. c .before .before .read-65536 .kept .1 .1 .0)  -- same-length-6
     (returns-6 t)

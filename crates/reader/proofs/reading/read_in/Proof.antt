@@ -2,16 +2,10 @@
 use mathlib.Core.Path.{_≡_}
 use native.Mathlib.Omega.{arith}
 use borrow.Author.Needs.{needs}
-use Rattle.chars.specs.Space.{skip}
-use Rattle.reader.proofs.Whole.{ready, passed-refused, marks-few, passed-behind, passed-full, passed-read}
+use Rattle.tokens.specs.Space.{skip}
+use Rattle.reader.proofs.reading.Laws.{ready, passed-refused, marks-few, passed-behind, passed-full, passed-read}
 use Rattle.reader.proofs.reading.read_in.Statement.{statement}
 use Rattle.reader.proofs.reading.read_in.Tie as tie
-
-skip-requires : tie.Need-skip-requires
-skip-requires c κs = search needs
-
-first-at-requires : tie.Need-first-at-requires
-first-at-requires c κs = search needs
 
 value-requires : tie.Need-value-requires
 value-requires c κs = (
@@ -30,21 +24,6 @@ module _ (c : tie.After-slice-known5) where
   begun : over .before .before .before .before .skip .result ≡ skip (start .args .text .now) 0
   begun = over .before .before .before .before .skip .ensures
 
-enum-known-code : tie.Need-enum-known-code
-enum-known-code c = search needs
-
-enum-known-end : tie.Need-enum-known-end
-enum-known-end c = search needs
-
-skip-requires-2 : tie.Need-skip-requires-2
-skip-requires-2 c κs = search needs
-
-same-length : tie.Need-same-length
-same-length c = search needs
-
-same-length-2 : tie.Need-same-length-2
-same-length-2 c = search needs
-
 returns : tie.Need-returns
 returns c =
     let v = c .before .before .before .before .before in
@@ -58,25 +37,10 @@ fill-requires c κs =
       omega arith,
     )
 
-same-length-3 : tie.Need-same-length-3
-same-length-3 c = search needs
-
-same-length-4 : tie.Need-same-length-4
-same-length-4 c = search needs
-
 returns-2 : tie.Need-returns-2
 returns-2 c =
     let v = c .before .before .before in
     passed-refused _ _ (begun v) (over v .value .ensures) _ (c .before .code .given .1)
-
-same-length-5 : tie.Need-same-length-5
-same-length-5 c = search needs
-
-same-length-6 : tie.Need-same-length-6
-same-length-6 c = search needs
-
-same-length-7 : tie.Need-same-length-7
-same-length-7 c = search needs
 
 returns-3 : tie.Need-returns-3
 returns-3 c =
@@ -84,38 +48,30 @@ returns-3 c =
     passed-read _ _ (begun v) (over v .value .ensures) (c .before .before .before .before .before .before .before .before .before .end .given .1) _ (c .before .before .before .before .before .before .before .skip2 .ensures)
     (c .before .before .before .before .before .before .if1 .left) (c .before .before .before .before .before .if2 .taken) (c .before .before .fill .ensures)
 
-same-length-8 : tie.Need-same-length-8
-same-length-8 c = search needs
-
-same-length-9 : tie.Need-same-length-9
-same-length-9 c = search needs
-
 returns-4 : tie.Need-returns-4
 returns-4 c =
     let v = c .before .before .before .before .before .before in
     passed-full _ _ (begun v) (over v .value .ensures) (c .before .before .before .before .end .given .1) _ (c .before .before .skip2 .ensures) (c .before .if1 .left) (c .if2 .left)
 
 pub read-in-spec : {M : Type 1} → statement M
-read-in-spec =
-    tie.close
-    (tie.spec
-    skip-requires
-    first-at-requires
+read-in-spec = tie.close (tie.spec
+    (λ c κs. search needs)  -- skip-requires
+    (λ c κs. search needs)  -- first-at-requires
     value-requires
-    enum-known-code
-    enum-known-end
-    skip-requires-2
-    same-length
-    same-length-2
+    (λ c. search needs)  -- enum-known-code
+    (λ c. search needs)  -- enum-known-end
+    (λ c κs. search needs)  -- skip-requires-2
+    (λ c. search needs)  -- same-length
+    (λ c. search needs)  -- same-length-2
     returns
     fill-requires
-    same-length-3
-    same-length-4
+    (λ c. search needs)  -- same-length-3
+    (λ c. search needs)  -- same-length-4
     returns-2
-    same-length-5
-    same-length-6
-    same-length-7
+    (λ c. search needs)  -- same-length-5
+    (λ c. search needs)  -- same-length-6
+    (λ c. search needs)  -- same-length-7
     returns-3
-    same-length-8
-    same-length-9
+    (λ c. search needs)  -- same-length-8
+    (λ c. search needs)  -- same-length-9
     returns-4)

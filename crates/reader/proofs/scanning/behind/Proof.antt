@@ -1,20 +1,8 @@
 -- `reader::scanning::behind` meets its contract: what is looked for stands there already, or behind space.
 use borrow.Author.Needs.{needs}
-use Rattle.reader.proofs.Following.{follows-soon, follows-later}
+use Rattle.reader.proofs.scanning.Closing.{follows-soon, follows-later}
 use Rattle.reader.proofs.scanning.behind.Statement.{statement}
 use Rattle.reader.proofs.scanning.behind.Tie as tie
-
-follows-requires : tie.Need-follows-requires
-follows-requires c κs = c .before .pre .0
-
-enum-known-r : tie.Need-enum-known-r
-enum-known-r c = search needs
-
-skip-requires : tie.Need-skip-requires
-skip-requires c κs = tt
-
-follows-requires-2 : tie.Need-follows-requires-2
-follows-requires-2 c κs = c .before .before .before .before .before .before .pre .0
 
 returns : tie.Need-returns
 returns c =
@@ -28,4 +16,10 @@ returns-2 c =
     follows-soon (b .args .closing) (b .args .text .now) (b .args .end) (c .before .follows .result) (b .pre .1) (c .match .keys2) (c .before .follows .ensures)
 
 pub behind-spec : {M : Type 1} → statement M
-behind-spec = tie.close (tie.spec follows-requires enum-known-r skip-requires follows-requires-2 returns returns-2)
+behind-spec = tie.close (tie.spec
+    (λ c κs. c .before .pre .0)  -- follows-requires
+    (λ c. search needs)  -- enum-known-r
+    (λ c κs. tt)  -- skip-requires
+    (λ c κs. c .before .before .before .before .before .before .pre .0)  -- follows-requires-2
+    returns
+    returns-2)

@@ -2,10 +2,10 @@
 use mathlib.Core.Path.{_≡_, ap, _∙_}
 use native.Mathlib.Omega.{arith}
 use borrow.Author.Needs.{needs}
-use Rattle.chars.specs.Tokens.{tokenOf}
-use Rattle.chars.specs.Scalars.{scalarBy, scalarAt}
-use Rattle.chars.specs.declared.scalars.First.{First}
-use Rattle.reader.proofs.Leaves.{leaf-broken, leaf-fits, leaf-noted}
+use Rattle.tokens.specs.Tokens.{tokenOf}
+use Rattle.tokens.specs.Scalars.{scalarBy, scalarAt}
+use Rattle.tokens.specs.declared.scalars.First.{First}
+use Rattle.reader.proofs.scanning.Leaves.{leaf-broken, leaf-fits, leaf-noted}
 use Rattle.reader.proofs.scanning.leaf.Statement.{statement}
 use Rattle.reader.proofs.scanning.leaf.Tie as tie
 
@@ -14,15 +14,6 @@ read : (c : tie.After-scalar) → let a = c .before .before .before .args in c .
 read c =
     let a = c .before .before .before .args in
     c .scalar .ensures ∙ ap (λ (f : First). tokenOf (scalarBy f (a .text .now) (a .at))) (c .before .before .before .pre .1 .first)
-
-scalar-requires : tie.Need-scalar-requires
-scalar-requires c κs = search needs
-
-enum-known-code : tie.Need-enum-known-code
-enum-known-code c = search needs
-
-enum-known-kind : tie.Need-enum-known-kind
-enum-known-kind c = search needs
 
 leaf-mark-requires : tie.Need-leaf-mark-requires
 leaf-mark-requires c κs = let b = c .before .before .before in leaf-fits (b .before .before .before .pre .0) (read b) (c .before .kind .given .1) .0
@@ -38,24 +29,19 @@ slice-write-marks c =
 returns : tie.Need-returns
 returns c = let b = c .before .before .before in leaf-broken (b .before .before .before .pre .0) (read b) (c .before .code .given .1)
 
-same-length : tie.Need-same-length
-same-length c = search needs
-
 returns-2 : tie.Need-returns-2
 returns-2 c =
     let b = c .before .before .before .before in
     leaf-noted (b .before .before .before .pre .0) (read b) (c .before .before .kind .given .1) (c .leaf-mark .ensures)
 
 pub leaf-spec : {M : Type 1} → statement M
-leaf-spec =
-    tie.close
-    (tie.spec
-    scalar-requires
-    enum-known-code
-    enum-known-kind
+leaf-spec = tie.close (tie.spec
+    (λ c κs. search needs)  -- scalar-requires
+    (λ c. search needs)  -- enum-known-code
+    (λ c. search needs)  -- enum-known-kind
     leaf-mark-requires
     mul-marks
     slice-write-marks
     returns
-    same-length
+    (λ c. search needs)  -- same-length
     returns-2)

@@ -7,9 +7,9 @@ use lib.ListN.{length}
 use denote.Ref.{now}
 use native.Mathlib.Omega.{arith}
 use borrow.Author.Needs.{needs}
-use Rattle.schema.specs.Walking.{ObjectRow}
-use Rattle.schema.proofs.Trees.{as-row, in-table, part-object, quotes-read}
-use Rattle.samples.proofs.Fields.{FieldHere}
+use Rattle.rows.specs.Records.{ObjectRow}
+use Rattle.rows.proofs.Facts.{as-row, in-table, part-object, quotes-read}
+use Rattle.definitions.proofs.Facts.{FieldHere}
 use Rattle.samples.proofs.fresh.Laws.{Counting, count-none, count-start, count-end, this, count-next}
 use Rattle.samples.proofs.fresh.count_fields.Statement.{statement}
 use Rattle.samples.proofs.fresh.count_fields.Tie as tie

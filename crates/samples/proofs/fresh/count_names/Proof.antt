@@ -5,11 +5,11 @@ use borrow.Author.Needs.{needs}
 use mir.Syntax.{w64}
 use mir.Val.{Fits}
 use Rattle.model.specs.Text.{text}
-use Rattle.schema.specs.Walking.{Finds}
-use Rattle.schema.specs.Comparing.{FieldsRow}
-use Rattle.schema.proofs.Words.{plain}
-use Rattle.schema.proofs.Trees.{as-row, in-table}
-use Rattle.schema.proofs.Carries.{object-body, required-fields, optional-fields}
+use Rattle.rows.specs.Finding.{Finds}
+use Rattle.definitions.specs.Shapes.{FieldsRow}
+use Rattle.definitions.proofs.Facts.{spelled}
+use Rattle.rows.proofs.Facts.{as-row, in-table}
+use Rattle.comparison.proofs.Facts.{object-body, required-fields, optional-fields}
 use Rattle.samples.proofs.fresh.Laws.{count-few, count-both}
 use Rattle.samples.proofs.fresh.count_names.Statement.{statement}
 use Rattle.samples.proofs.fresh.count_names.Tie as tie
@@ -27,10 +27,10 @@ module _ (c : tie.After-find2) where
   entry = start (c .before .before)
 
   pub required : Finds (entry .args .text .now) (entry .args .table .now) (entry .args .row + 2) (text "required") (c .before .before .find .result)
-  required = rw (plain .required) at (c .before .before .find .ensures)
+  required = rw (spelled .required) at (c .before .before .find .ensures)
 
   pub optional : Finds (entry .args .text .now) (entry .args .table .now) (entry .args .row + 2) (text "optional") (c .find2 .result)
-  optional = rw (plain .optional) at (c .find2 .ensures)
+  optional = rw (spelled .optional) at (c .find2 .ensures)
 
   pub firsts : FieldsRow (entry .args .text .now) (entry .args .table .now) (c .before .before .find .result)
   firsts = required-fields (entry .pre .1) required (entry .pre .0)

@@ -9,13 +9,12 @@ use mir.Val.{Fits}
 use borrow.Author.Needs.{needs}
 use Rattle.model.specs.Text.{text}
 use Rattle.model.specs.Witness.{fresh}
-use Rattle.schema.specs.Located.{plain, plainFields}
-use Rattle.schema.specs.Walking.{Finds}
-use Rattle.schema.specs.Comparing.{FieldsRow}
-use Rattle.schema.proofs.Words as Words
-use Rattle.schema.proofs.Trees.{as-row, in-table}
-use Rattle.schema.proofs.Shapes.{Fielded}
-use Rattle.schema.proofs.Carries.{object-fields, object-body, required-fields}
+use Rattle.definitions.specs.Definitions.{bare, bareFields}
+use Rattle.rows.specs.Finding.{Finds}
+use Rattle.definitions.specs.Shapes.{FieldsRow}
+use Rattle.definitions.proofs.Facts.{spelled, Fielded}
+use Rattle.rows.proofs.Facts.{as-row, in-table}
+use Rattle.comparison.proofs.Facts.{object-fields, object-body, required-fields}
 use Rattle.samples.proofs.Lent.{putBack, wrote-two, Lent, lent, lent-more, lent-last, last-same}
 use Rattle.samples.proofs.fresh.Laws.{beyond-as, beyond-same, opened, isNull, fellows, beside-spelled, beside-long}
 use Rattle.samples.proofs.fresh.write_beside.Statement.{statement}
@@ -26,14 +25,14 @@ module _ (p : tie.Start) where
   abbrev pub out : List ℕ
   out = p .args .out .now
 
-  abbrev pub given : Fielded (p .args .text .now) (p .args .table .now) (p .args .row) (plain (p .pre .0 .row .definition))
+  abbrev pub given : Fielded (p .args .text .now) (p .args .table .now) (p .args .row) (bare (p .pre .0 .row .definition))
   given = object-fields (p .pre .1) (p .pre .0 .row)
 
   abbrev pub name : List ℕ
-  name = fresh (plain (p .pre .0 .row .definition))
+  name = fresh (bare (p .pre .0 .row .definition))
 
   abbrev pub others : List ℕ
-  others = fellows (plainFields (given .required))
+  others = fellows (bareFields (given .required))
 
   pub room : length name + length others + 9 ≤ length out
   room = omega (arith, beside-long (given .is), p .pre .0 .fits)
@@ -88,7 +87,7 @@ module _ (c : tie.After-find) where
   start₄ = start₂ (named valued)
 
   pub required : Finds (start₄ .args .text .now) (start₄ .args .table .now) (start₄ .args .row + 2) (text "required") (c .find .result)
-  required = rw (Words.plain .required) at (c .find .ensures)
+  required = rw (spelled .required) at (c .find .ensures)
 
   abbrev pub fields : FieldsRow (start₄ .args .text .now) (start₄ .args .table .now) (c .find .result)
   fields = required-fields (start₄ .pre .1) required (start₄ .pre .0 .row)

@@ -17,9 +17,6 @@ first : (d : tie.Start) → let a = d .args in Lent (a .out .now) 1 (set (a .out
 first d = lent (wrote-one (d .args .out .now) (d .args .lead) (omega (arith, name-room (d .pre)))) (omega (arith, name-room (d .pre)))
 
 -- the buffer behind it is lent
-ready : tie.Need-write-string-requires
-ready c κs = let d = c .before .before .before in (name-quoted (d .pre .quoted), omega (arith, first d .left))
-
 -- the name is written
 module _ (c : tie.After-struct-known) where
   abbrev pub start : tie.Start
@@ -42,7 +39,7 @@ write-name-spec = tie.close (tie.spec
     (λ c. let d = c .before .before in omega (arith, first d .room, first d .same))  -- out[1..]
     (λ c. let d = c .before .before in omega (arith, first d .room, first d .same))
     (λ c. search needs)
-    ready
+    (λ c κs. let d = c .before .before .before in (name-quoted (d .pre .quoted), omega (arith, first d .left)))  -- write-string-requires
     (λ c. omega (arith, written c .room, start c .good))  -- 1 + p.len
     (λ c. omega (arith, written c .room, written c .same))  -- out[n]
     (λ c. omega (arith, written c .room, start c .good))  -- n + 1

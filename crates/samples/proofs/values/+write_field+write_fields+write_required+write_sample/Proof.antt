@@ -13,24 +13,22 @@ use borrow.Fn.Kinds.{In}
 use borrow.Fn.PlainCycle.{Measures, is, falls, and}
 use Rattle.model.specs.Text.{text}
 use Rattle.chars.specs.Strings.{characters}
-use Rattle.reader.specs.Grammar.{nameOf}
-use Rattle.reader.specs.Holding.{word}
+use Rattle.syntax.specs.Grammar.{nameOf}
+use Rattle.syntax.specs.Holding.{word}
 use Rattle.samples.proofs.Lent.{putBack}
-use Rattle.schema.specs.Walking.{ObjectRow, Finds}
-use Rattle.schema.specs.Comparing.{GenericRow}
-use Rattle.schema.specs.declared.names.Generic.the-variants.{Object}
-use Rattle.schema.proofs.Words.{plain}
-use Rattle.schema.proofs.Trees.{in-table, as-row, part-object, quotes-read}
-use Rattle.schema.proofs.Carries.{object-body}
-use Rattle.schema.proofs.Defines.{partRows, part-rows}
+use Rattle.rows.specs.Records.{ObjectRow}
+use Rattle.rows.specs.Finding.{Finds}
+use Rattle.definitions.specs.Shapes.{GenericRow}
+use Rattle.definitions.specs.declared.types.Generic.the-variants.{Object}
+use Rattle.definitions.proofs.Facts.{spelled, partRows, part-rows, FieldHere, field-here}
+use Rattle.rows.proofs.Facts.{in-table, as-row, part-object, quotes-read}
+use Rattle.comparison.proofs.Facts.{object-body}
 use Rattle.samples.specs.Writing.{FieldReady, keeps}
-use Rattle.samples.proofs.values.Laws.{sample-fits, sample-written, array-sample, map-sample, name-sample}
-use Rattle.samples.proofs.values.Laws.{as-object, required-ready, required-less, sample-required}
-use Rattle.samples.proofs.values.Laws.{fields-ready, required-least, required-room, required-length, required-empty, required-closed}
-use Rattle.samples.proofs.values.Laws.{Named, Valued, name-ready, field-named, value-ready, field-valued, field-written}
-use Rattle.samples.proofs.Fields.{FieldHere, field-here}
-use Rattle.samples.proofs.values.Laws.{InFields, members-none, keeps-all, keeps-by}
-use Rattle.samples.proofs.values.Laws.{in-start, in-lent, in-within, in-ready, in-small, in-kept, in-skipped, in-end}
+use Rattle.samples.proofs.values.Laws.{sample-fits, sample-written, array-sample, map-sample, name-sample, as-object, required-ready}
+use Rattle.samples.proofs.values.Laws.{required-less, sample-required, fields-ready, required-least, required-room, required-length}
+use Rattle.samples.proofs.values.Laws.{required-empty, required-closed, Named, Valued, name-ready, field-named, value-ready}
+use Rattle.samples.proofs.values.Laws.{field-valued, field-written, InFields, members-none, keeps-all, keeps-by, in-start, in-lent}
+use Rattle.samples.proofs.values.Laws.{in-within, in-ready, in-small, in-kept, in-skipped, in-end}
 use Rattle.samples.proofs.values.write_field.Reads as write-field
 use Rattle.samples.proofs.values.write_field.Kinds as write-field-kinds
 use Rattle.samples.proofs.values.+write_field+write_fields+write_required+write_sample.Lts-write_field as write-field-lts
@@ -47,10 +45,10 @@ use Rattle.chars.proofs.same_name.Reads as same-name-reads
 use Rattle.samples.proofs.pieces.write_bytes.Reads as write-bytes-reads
 use Rattle.samples.proofs.pieces.write_name.Reads as write-name-reads
 use Rattle.samples.proofs.pieces.write_plain.Reads as write-plain-reads
-use Rattle.schema.proofs.generic_at.Reads as generic-at-reads
-use Rattle.schema.proofs.type_at.Reads as type-at-reads
-use Rattle.schema.proofs.find.Reads as find-reads
-use Rattle.schema.proofs.row_at.Reads as row-at-reads
+use Rattle.definitions.proofs.generic_at.Reads as generic-at-reads
+use Rattle.definitions.proofs.type_at.Reads as type-at-reads
+use Rattle.rows.proofs.find.Reads as find-reads
+use Rattle.rows.proofs.row_at.Reads as row-at-reads
 use Rattle.samples.proofs.values.+write_field+write_fields+write_required+write_sample.{statement}
 use Rattle.samples.proofs.values.+write_field+write_fields+write_required+write_sample.Tie.{close}
 
@@ -269,7 +267,7 @@ module _ (t : ℕ) where
   -- its required fields
   module _ (c : write-sample-lts.After-find (write-sample-claims t) (write-sample-at t) write-sample.Post) where
     pub sample-fields : let a = sample-start (c .before .before .before .before) .args in Finds (a .text .now) (a .table .now) (a .row + 2) (text "required") (c .find .result)
-    sample-fields = rw (plain .required) at (c .find .ensures)
+    sample-fields = rw (spelled .required) at (c .find .ensures)
 
     pub sample-less : 3 * partRows (sample-start (c .before .before .before .before) .args .table .now) (c .find .result) + 2 < t
     sample-less = let p = sample-start (c .before .before .before .before) .pre in omega (arith, p .0, required-less (sample-object (c .before .before)) sample-fields (p .1 .row))

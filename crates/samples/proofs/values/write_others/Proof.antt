@@ -3,12 +3,13 @@ use Prim.Native.Nat.{_+_}
 use native.Mathlib.Omega.{arith}
 use borrow.Author.Needs.{needs}
 use Rattle.model.specs.Text.{text}
-use Rattle.schema.specs.Walking.{ObjectRow, Finds}
-use Rattle.schema.specs.Comparing.{GenericRow}
-use Rattle.schema.specs.declared.names.Generic.the-variants.{Object}
-use Rattle.schema.proofs.Words.{plain}
-use Rattle.schema.proofs.Trees.{in-table, as-row}
-use Rattle.schema.proofs.Carries.{object-body}
+use Rattle.rows.specs.Records.{ObjectRow}
+use Rattle.rows.specs.Finding.{Finds}
+use Rattle.definitions.specs.Shapes.{GenericRow}
+use Rattle.definitions.specs.declared.types.Generic.the-variants.{Object}
+use Rattle.definitions.proofs.Facts.{spelled}
+use Rattle.rows.proofs.Facts.{in-table, as-row}
+use Rattle.comparison.proofs.Facts.{object-body}
 use Rattle.samples.proofs.values.Laws.{as-object, others-ready, others-written, others-none}
 use Rattle.samples.proofs.values.write_others.Statement.{statement}
 use Rattle.samples.proofs.values.write_others.Tie as tie
@@ -24,7 +25,7 @@ module _ (c : tie.After-enum-told) where
 fields : (c : tie.After-find) →
     let a = c .before .before .before .before .before .before .before .before .before .args in
     Finds (a .text .now) (a .table .now) (a .row + 2) (text "required") (c .find .result)
-fields c = rw (plain .required) at (c .find .ensures)
+fields c = rw (spelled .required) at (c .find .ensures)
 
 pub write-others-spec : {M : Type 1} → statement M
 write-others-spec = tie.close (tie.spec

@@ -4,28 +4,16 @@ use mathlib.Core.List.{List}
 use Prim.Native.Nat.{ℕ}
 use borrow.Author.Needs.{needs}
 use lib.ListN.{length}
-use Rattle.reader.specs.Answer.{answerOf, tableOf}
-use Rattle.schema.specs.Check.{readDocument}
-use Rattle.schema.proofs.Accepting.{whole, check-unaccepted, check-unread, check-judgeable, check-meets, check-mismatch}
+use Rattle.syntax.specs.Answer.{answerOf, tableOf}
+use Rattle.schema.specs.Checking.{readDocument}
+use Rattle.schema.proofs.checking.Laws.{whole, check-unaccepted, check-unread, check-judgeable, check-meets, check-mismatch}
 use Rattle.schema.proofs.checking.check.Statement.{statement}
 use Rattle.schema.proofs.checking.check.Tie as tie
-
-accept-requires : tie.Need-accept-requires
-accept-requires c κs = search needs
-
-same-length : tie.Need-same-length
-same-length c = search needs
 
 returns : tie.Need-returns
 returns c =
     let a = c .before .before .before .before .accept .ensures in
     whole _ _ _ _ (check-unaccepted _ _ _ _ (a .0) (a .1) (c .if1 .taken)) (a .1)
-
-document-requires : tie.Need-document-requires
-document-requires c κs = search needs
-
-read-within-requires : tie.Need-read-within-requires
-read-within-requires c κs = search needs
 
 -- the document is read within a document's limits
 module _ (c : tie.After-read-within) where
@@ -41,12 +29,6 @@ module _ (c : tie.After-read-within) where
   abbrev rows : _≡_ (c .read-within .last .1 .1 .1 .0) (tableOf t₁ (readDocument s₁))
   rows = rw (c .before .before .document .ensures) at (c .read-within .ensures .1)
 
-same-length-2 : tie.Need-same-length-2
-same-length-2 c = search needs
-
-same-length-3 : tie.Need-same-length-3
-same-length-3 c = search needs
-
 returns-2 : tie.Need-returns-2
 returns-2 c =
     let r = c .before .before .before .before in
@@ -59,12 +41,6 @@ judge-requires c κs =
     let k = r .before .before .before .before .before .before .before .accept .ensures in
     check-judgeable _ _ _ _ (k .0) (k .1) (r .before .before .before .if1 .left) (read r) (rows r) (c .before .before .if2 .left)
 
-new-requires : tie.Need-new-requires
-new-requires c κs = search needs
-
-same-length-4 : tie.Need-same-length-4
-same-length-4 c = search needs
-
 same-length-5 : tie.Need-same-length-5
 same-length-5 c = c .before .before .before .before .before .before .before .before .before .before .before .before .before .before .before .before .before .accept .kept .1 .1 .0
 
@@ -76,12 +52,6 @@ returns-3 c =
     whole _ _ _ _
     (check-meets _ _ _ _ (k .0) (k .1) (r .before .before .before .if1 .left) (read r) (rows r) (j .before .before .before .if2 .left) (j .judge .ensures) (c .before .if3 .taken) (c .new .ensures))
     (k .1)
-
-new-requires-2 : tie.Need-new-requires-2
-new-requires-2 c κs = search needs
-
-same-length-6 : tie.Need-same-length-6
-same-length-6 c = search needs
 
 same-length-7 : tie.Need-same-length-7
 same-length-7 c = c .before .before .before .before .before .before .before .before .before .before .before .before .before .before .before .before .before .accept .kept .1 .1 .0
@@ -96,23 +66,21 @@ returns-4 c =
     (k .1)
 
 pub check-spec : {M : Type 1} → statement M
-check-spec =
-    tie.close
-    (tie.spec
-    accept-requires
-    same-length
+check-spec = tie.close (tie.spec
+    (λ c κs. search needs)  -- accept-requires
+    (λ c. search needs)  -- same-length
     returns
-    document-requires
-    read-within-requires
-    same-length-2
-    same-length-3
+    (λ c κs. search needs)  -- document-requires
+    (λ c κs. search needs)  -- read-within-requires
+    (λ c. search needs)  -- same-length-2
+    (λ c. search needs)  -- same-length-3
     returns-2
     judge-requires
-    new-requires
-    same-length-4
+    (λ c κs. search needs)  -- new-requires
+    (λ c. search needs)  -- same-length-4
     same-length-5
     returns-3
-    new-requires-2
-    same-length-6
+    (λ c κs. search needs)  -- new-requires-2
+    (λ c. search needs)  -- same-length-6
     same-length-7
     returns-4)

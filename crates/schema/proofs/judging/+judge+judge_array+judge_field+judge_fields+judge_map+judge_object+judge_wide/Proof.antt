@@ -10,19 +10,17 @@ use lib.ListN.{length, getD, length-replicate}
 use mir.Syntax.{w64}
 use mir.Val.{Fits}
 use Rattle.model.specs.Text.{text}
-use Rattle.reader.specs.Holding.{word}
-use Rattle.schema.specs.Walking.{Rowed, ObjectRow, Finds}
-use Rattle.schema.proofs.Words.{plain}
-use Rattle.schema.proofs.Trees.{in-table, as-row, part-object, quotes-read, row-behind, MemberHere}
-use Rattle.schema.proofs.Defines.{partRows, part-rows}
-use Rattle.schema.proofs.Shapes.{Under, under}
-use Rattle.schema.proofs.Judges.{GenericRead, reads-array, reads-map, reads-object, Turn, turn-stops}
-use Rattle.schema.proofs.Judges.{InArray, array-other, array-start, array-turn, array-next, array-end}
-use Rattle.schema.proofs.Judges.{InMap, map-other, map-start, map-turn, map-next, map-end}
-use Rattle.schema.proofs.Judges.{InBody, object-other, object-start, fields-found, part-less, required-stops, optional-ends}
-use Rattle.schema.proofs.Judges.{InFields, FieldSought, fields-none, fields-start, fields-end, field-here, field-less}
-use Rattle.schema.proofs.Judges.{field-judgeable, field-fails, field-next, InWide, wide-start, wide-sought, wide-next, wide-end}
-use Rattle.schema.proofs.Judges.{field-value, field-found, field-missing, field-skipped}
+use Rattle.syntax.specs.Holding.{word}
+use Rattle.rows.specs.Records.{Rowed, ObjectRow}
+use Rattle.rows.specs.Finding.{Finds}
+use Rattle.definitions.proofs.Facts.{spelled, partRows, part-rows, Under, under}
+use Rattle.rows.proofs.Facts.{in-table, as-row, part-object, row-behind, quotes-read, MemberHere}
+use Rattle.schema.proofs.judging.Laws.{GenericRead, reads-array, reads-map, reads-object, Turn, turn-stops, InArray, array-other}
+use Rattle.schema.proofs.judging.Laws.{array-start, array-turn, array-next, array-end, InMap, map-other, map-start, map-turn, map-next}
+use Rattle.schema.proofs.judging.Laws.{map-end, InBody, object-other, object-start, fields-found, part-less, required-stops}
+use Rattle.schema.proofs.judging.Laws.{optional-ends, InFields, FieldSought, fields-none, fields-start, fields-end, field-here}
+use Rattle.schema.proofs.judging.Laws.{field-less, field-judgeable, field-fails, field-next, InWide, wide-start, wide-sought, wide-next}
+use Rattle.schema.proofs.judging.Laws.{wide-end, field-value, field-found, field-missing, field-skipped}
 use borrow.Fn.Kinds.{In}
 use borrow.Fn.PlainCycle.{Measures, is, falls, and}
 use Rattle.schema.proofs.judging.judge.Reads as judge
@@ -49,13 +47,14 @@ use Rattle.schema.proofs.judging.+judge+judge_array+judge_field+judge_f
 use Rattle.schema.proofs.judging.Mismatch.at.Reads as at-reads
 use Rattle.schema.proofs.judging.Mismatch.none.Reads as none-reads
 use Rattle.schema.proofs.judging.judge_named.Reads as judge-named-reads
-use Rattle.schema.proofs.matching.match_names.Reads as match-names-reads
-use Rattle.schema.proofs.matching.wide.Reads as wide-reads
-use Rattle.schema.proofs.names.generic_name.Reads as generic-name-reads
-use Rattle.schema.proofs.rows.find.Reads as find-reads
-use Rattle.schema.proofs.rows.row_at.Reads as row-at-reads
+use Rattle.rows.proofs.match_names.Reads as match-names-reads
+use Rattle.rows.proofs.wide.Reads as wide-reads
+use Rattle.definitions.proofs.generic_name.Reads as generic-name-reads
+use Rattle.rows.proofs.find.Reads as find-reads
+use Rattle.rows.proofs.row_at.Reads as row-at-reads
 use Rattle.schema.proofs.judging.+judge+judge_array+judge_field+judge_fields+judge_map+judge_object+judge_wide.{statement}
 use Rattle.schema.proofs.judging.+judge+judge_array+judge_field+judge_fields+judge_map+judge_object+judge_wide.Tie.{close}
+use Rattle.rows.specs.Matching.{mostNames}
 
 abbrev μ-judge : Measures 4 judge-kinds.ps ℕ
 μ-judge κs a = 3 * word (a .1 .1 .1 .0 .now) (a .1 .1 .1 .1 .1 .0) 4 + 1
@@ -179,70 +178,13 @@ module _ (t : ℕ) where
       3 * word (a .rows2 .now) (a .by) 4 < t
   judge-less c = omega (arith, judge-entry (c .before .before .before .before .before .before .before) .pre .0)
 
-  judge-row-at-requires : judge-lts.Need-row-at-requires (judge-claims t) (judge-at t) judge.Post
-  judge-row-at-requires c κs = in-table (c .before .before .before .before .pre .1 .schema)
-
   judge-judge-named-requires : judge-lts.Need-judge-named-requires (judge-claims t) (judge-at t) judge.Post
   judge-judge-named-requires c κs =
       let r = c .before .before in
       (judge-entry r .pre .1, sym (r .row-at .ensures .kind) ∙ c .if1 .taken)
 
-  judge-returns : judge-lts.Need-returns (judge-claims t) (judge-at t) judge.Post
-  judge-returns c = c .judge-named .ensures
-
-  judge-add-row-at : judge-lts.Need-add-row-at (judge-claims t) (judge-at t) judge.Post
-  judge-add-row-at c = omega (arith, judge-under c .in-table .here, judge-entry (c .before .before) .good)
-
-  judge-row-at-requires-2 : judge-lts.Need-row-at-requires-2 (judge-claims t) (judge-at t) judge.Post
-  judge-row-at-requires-2 c κs = judge-under c .in-table
-
-  judge-cast-from : judge-lts.Need-cast-from (judge-claims t) (judge-at t) judge.Post
-  judge-cast-from c = search needs
-
-  judge-add-from : judge-lts.Need-add-from (judge-claims t) (judge-at t) judge.Post
-  judge-add-from c = omega (arith, judge-quotes (c .before), judge-entry (c .before .before .before .before) .good)
-
-  judge-cast-to : judge-lts.Need-cast-to (judge-claims t) (judge-at t) judge.Post
-  judge-cast-to c = search needs
-
-  judge-sub-to : judge-lts.Need-sub-to (judge-claims t) (judge-at t) judge.Post
-  judge-sub-to c = omega (arith, judge-quotes (c .before .before))
-
-  judge-sub-generic-name : judge-lts.Need-sub-generic-name (judge-claims t) (judge-at t) judge.Post
-  judge-sub-generic-name c = omega (arith, judge-quotes (c .before .before))
-
-  judge-part-generic-name-start : judge-lts.Need-part-generic-name-start (judge-claims t) (judge-at t) judge.Post
-  judge-part-generic-name-start c = omega (arith, judge-quotes (c .before .before))
-
-  judge-part-generic-name-end : judge-lts.Need-part-generic-name-end (judge-claims t) (judge-at t) judge.Post
-  judge-part-generic-name-end c = omega (arith, judge-quotes (c .before .before))
-
-  judge-generic-name-requires : judge-lts.Need-generic-name-requires (judge-claims t) (judge-at t) judge.Post
-  judge-generic-name-requires c κs = tt
-
-  judge-enum-told : judge-lts.Need-enum-told (judge-claims t) (judge-at t) judge.Post
-  judge-enum-told c = search needs
-
   judge-judge-array-requires : judge-lts.Need-judge-array-requires (judge-claims t) (judge-at t) judge.Post
   judge-judge-array-requires c κs = let g = c .before .before in (judge-less g, reads-array (judge-generic g) (c .enum-told .given .1))
-
-  judge-enum-told-2 : judge-lts.Need-enum-told-2 (judge-claims t) (judge-at t) judge.Post
-  judge-enum-told-2 c = search needs
-
-  judge-judge-map-requires : judge-lts.Need-judge-map-requires (judge-claims t) (judge-at t) judge.Post
-  judge-judge-map-requires c κs = let g = c .before .before in (judge-less g, reads-map (judge-generic g) (c .enum-told2 .given .1))
-
-  judge-judge-object-requires : judge-lts.Need-judge-object-requires (judge-claims t) (judge-at t) judge.Post
-  judge-judge-object-requires c κs = (judge-less (c .before), reads-object (judge-generic (c .before)) (c .match .keys3))
-
-  judge-returns-2 : judge-lts.Need-returns-2 (judge-claims t) (judge-at t) judge.Post
-  judge-returns-2 c = c .judge-array .ensures
-
-  judge-returns-3 : judge-lts.Need-returns-3 (judge-claims t) (judge-at t) judge.Post
-  judge-returns-3 c = c .judge-map .ensures
-
-  judge-returns-4 : judge-lts.Need-returns-4 (judge-claims t) (judge-at t) judge.Post
-  judge-returns-4 c = c .judge-object .ensures
 
 -- ---- judge_array
 
@@ -267,27 +209,10 @@ module _ (t : ℕ) where
       Turn (a .document .now) (a .schema .now) (a .rows1 .now) (a .rows2 .now) (a .at) (a .by) (c .before .loop .row)
   array-here c = array-turn (c .before .loop .inv) (c .loop-test .taken)
 
-  judge-array-row-at-requires : judge-array-lts.Need-row-at-requires (judge-array-claims t) (judge-array-at t) judge-array.Post judge-array-Inv-loop judge-array-μ-loop
-  judge-array-row-at-requires c κs = in-table (c .before .before .before .before .pre .1 .given .document)
-
-  judge-array-row-at-requires-2 : judge-array-lts.Need-row-at-requires-2 (judge-array-claims t) (judge-array-at t) judge-array.Post judge-array-Inv-loop judge-array-μ-loop
-  judge-array-row-at-requires-2 c κs = in-table (array-entry (c .before .before) .pre .1 .given .schema)
-
-  judge-array-at-requires : judge-array-lts.Need-at-requires (judge-array-claims t) (judge-array-at t) judge-array.Post judge-array-Inv-loop judge-array-μ-loop
-  judge-array-at-requires c κs = tt
-
   judge-array-returns : judge-array-lts.Need-returns (judge-array-claims t) (judge-array-at t) judge-array.Post judge-array-Inv-loop judge-array-μ-loop
   judge-array-returns c =
       let r = c .before .before .before .before in
       array-other (array-entry r .pre .1) (r .row-at .ensures) (c .before .row-at2 .ensures) (c .before .before .if1 .taken) (c .at .ensures)
-
-  judge-array-add-row : judge-array-lts.Need-add-row (judge-array-claims t) (judge-array-at t) judge-array.Post judge-array-Inv-loop judge-array-μ-loop
-  judge-array-add-row c =
-      let s = array-entry (c .before .before) in
-      omega (arith, in-table (s .pre .1 .given .document) .here, s .good)
-
-  judge-array-loop-holds : judge-array-lts.Need-loop-holds (judge-array-claims t) (judge-array-at t) judge-array.Post judge-array-Inv-loop judge-array-μ-loop
-  judge-array-loop-holds c = let r = c .before .before in array-start (array-entry r .pre .1) (r .row-at .ensures) (c .if1 .left)
 
   judge-array-add-judge : judge-array-lts.Need-add-judge (judge-array-claims t) (judge-array-at t) judge-array.Post judge-array-Inv-loop judge-array-μ-loop
   judge-array-add-judge c = omega (arith, in-table (array-here c .one .schema) .here, array-entry (c .before .before .before .before) .good)
@@ -295,28 +220,10 @@ module _ (t : ℕ) where
   judge-array-judge-requires : judge-array-lts.Need-judge-requires (judge-array-claims t) (judge-array-at t) judge-array.Post judge-array-Inv-loop judge-array-μ-loop
   judge-array-judge-requires c κs = (omega (arith, array-here c .less, array-entry (c .before .before .before .before) .pre .0), array-here c .one)
 
-  judge-array-returns-2 : judge-array-lts.Need-returns-2 (judge-array-claims t) (judge-array-at t) judge-array.Post judge-array-Inv-loop judge-array-μ-loop
-  judge-array-returns-2 c = turn-stops (array-here (c .before .before .before)) (c .before .before .judge .ensures) (c .if2 .taken)
-
-  judge-array-row-at-requires-3 : judge-array-lts.Need-row-at-requires-3 (judge-array-claims t) (judge-array-at t) judge-array.Post judge-array-Inv-loop judge-array-μ-loop
-  judge-array-row-at-requires-3 c κs = in-table (array-here (c .before .before .before) .one .document)
-
-  judge-array-sub-left : judge-array-lts.Need-sub-left (judge-array-claims t) (judge-array-at t) judge-array.Post judge-array-Inv-loop judge-array-μ-loop
-  judge-array-sub-left c = omega arith
-
-  judge-array-loop-less : judge-array-lts.Need-loop-less (judge-array-claims t) (judge-array-at t) judge-array.Post judge-array-Inv-loop judge-array-μ-loop
-  judge-array-loop-less c = omega arith
-
   judge-array-loop-again : judge-array-lts.Need-loop-again (judge-array-claims t) (judge-array-at t) judge-array.Post judge-array-Inv-loop judge-array-μ-loop
   judge-array-loop-again c =
       let i = c .before .before .before .before in
       array-next (i .before .loop .inv) (i .loop-test .taken) (c .before .before .before .judge .ensures) (c .before .if2 .left) (c .row-at3 .ensures)
-
-  judge-array-none-requires : judge-array-lts.Need-none-requires (judge-array-claims t) (judge-array-at t) judge-array.Post judge-array-Inv-loop judge-array-μ-loop
-  judge-array-none-requires c κs = tt
-
-  judge-array-returns-3 : judge-array-lts.Need-returns-3 (judge-array-claims t) (judge-array-at t) judge-array.Post judge-array-Inv-loop judge-array-μ-loop
-  judge-array-returns-3 c = array-end (c .before .before .loop .inv) (c .before .loop-test .left) (c .none .ensures)
 
 -- ---- judge_field
 
@@ -333,33 +240,12 @@ judge-field-claims t = (
 )
 
 module _ (t : ℕ) where
-  judge-field-add-judge : judge-field-lts.Need-add-judge (judge-field-claims t) (judge-field-at t) judge-field.Post
-  judge-field-add-judge c = let s = c .before .before .before .before .before in omega (arith, in-table (s .pre .1 .schema) .here, s .good)
-
   judge-field-judge-requires : judge-field-lts.Need-judge-requires (judge-field-claims t) (judge-field-at t) judge-field.Post
   judge-field-judge-requires c κs = let s = c .before .before .before .before .before in (omega (arith, s .pre .0), field-value (s .pre .1) (c .if1 .taken))
-
-  judge-field-returns : judge-field-lts.Need-returns (judge-field-claims t) (judge-field-at t) judge-field.Post
-  judge-field-returns c = field-found (c .before .if1 .taken) (c .judge .ensures)
-
-  judge-field-row-at-requires : judge-field-lts.Need-row-at-requires (judge-field-claims t) (judge-field-at t) judge-field.Post
-  judge-field-row-at-requires c κs = in-table (as-row (c .before .before .before .before .before .before .pre .1 .document))
-
-  judge-field-row-at-requires-2 : judge-field-lts.Need-row-at-requires-2 (judge-field-claims t) (judge-field-at t) judge-field.Post
-  judge-field-row-at-requires-2 c κs = c .before .before .before .before .before .before .before .pre .1 .name
-
-  judge-field-at-requires : judge-field-lts.Need-at-requires (judge-field-claims t) (judge-field-at t) judge-field.Post
-  judge-field-at-requires c κs = tt
 
   judge-field-returns-2 : judge-field-lts.Need-returns-2 (judge-field-claims t) (judge-field-at t) judge-field.Post
   judge-field-returns-2 c =
       field-missing (c .before .before .before .before .if1 .left) (c .before .before .before .if2 .taken) (c .before .before .row-at .ensures) (c .before .row-at2 .ensures) (c .at .ensures)
-
-  judge-field-none-requires : judge-field-lts.Need-none-requires (judge-field-claims t) (judge-field-at t) judge-field.Post
-  judge-field-none-requires c κs = tt
-
-  judge-field-returns-3 : judge-field-lts.Need-returns-3 (judge-field-claims t) (judge-field-at t) judge-field.Post
-  judge-field-returns-3 c = field-skipped (c .before .before .if1 .left) (c .before .if2 .left) (c .none .ensures)
 
 -- ---- judge_fields
 
@@ -440,74 +326,14 @@ module _ (t : ℕ) where
         finds = rw (c .before .before .before .before .row-at2 .ensures .first, c .before .before .before .before .row-at2 .ensures .last) at (c .find .ensures);
       }
 
-  judge-fields-none-requires : judge-fields-lts.Need-none-requires (judge-fields-claims t) (judge-fields-at t) judge-fields.Post judge-fields-Inv-loop judge-fields-μ-loop
-  judge-fields-none-requires c κs = tt
-
   judge-fields-returns : judge-fields-lts.Need-returns (judge-fields-claims t) (judge-fields-at t) judge-fields.Post judge-fields-Inv-loop judge-fields-μ-loop
   judge-fields-returns c = fields-none (c .before .before .before .before .before .before .args .required) (c .before .before .before .before .before .before .pre .1) (c .before .if1 .taken) (c .none .ensures)
-
-  judge-fields-row-at-requires : judge-fields-lts.Need-row-at-requires (judge-fields-claims t) (judge-fields-at t) judge-fields.Post judge-fields-Inv-loop judge-fields-μ-loop
-  judge-fields-row-at-requires c κs = in-table (as-row (fields-object c))
-
-  judge-fields-add-row : judge-fields-lts.Need-add-row (judge-fields-claims t) (judge-fields-at t) judge-fields.Post judge-fields-Inv-loop judge-fields-μ-loop
-  judge-fields-add-row c = omega (arith, in-table (as-row (fields-object (c .before))) .here, fields-entry (c .before) .good)
-
-  judge-fields-loop-holds : judge-fields-lts.Need-loop-holds (judge-fields-claims t) (judge-fields-at t) judge-fields.Post judge-fields-Inv-loop judge-fields-μ-loop
-  judge-fields-loop-holds c = fields-start (fields-entry (c .before) .pre .1) (fields-row (c .before)) (c .row-at .ensures .children)
-
-  judge-fields-row-at-requires-2 : judge-fields-lts.Need-row-at-requires-2 (judge-fields-claims t) (judge-fields-at t) judge-fields.Post judge-fields-Inv-loop judge-fields-μ-loop
-  judge-fields-row-at-requires-2 c κs = fields-here c .in-table
-
-  judge-fields-cast-from : judge-fields-lts.Need-cast-from (judge-fields-claims t) (judge-fields-at t) judge-fields.Post judge-fields-Inv-loop judge-fields-μ-loop
-  judge-fields-cast-from c = search needs
-
-  judge-fields-add-from : judge-fields-lts.Need-add-from (judge-fields-claims t) (judge-fields-at t) judge-fields.Post judge-fields-Inv-loop judge-fields-μ-loop
-  judge-fields-add-from c = omega (arith, fields-quotes (c .before), turn-entry (c .before .before) .good)
-
-  judge-fields-cast-to : judge-fields-lts.Need-cast-to (judge-fields-claims t) (judge-fields-at t) judge-fields.Post judge-fields-Inv-loop judge-fields-μ-loop
-  judge-fields-cast-to c = search needs
-
-  judge-fields-sub-to : judge-fields-lts.Need-sub-to (judge-fields-claims t) (judge-fields-at t) judge-fields.Post judge-fields-Inv-loop judge-fields-μ-loop
-  judge-fields-sub-to c = omega (arith, fields-quotes (c .before .before))
-
-  judge-fields-sub-find : judge-fields-lts.Need-sub-find (judge-fields-claims t) (judge-fields-at t) judge-fields.Post judge-fields-Inv-loop judge-fields-μ-loop
-  judge-fields-sub-find c = omega (arith, fields-quotes (c .before .before))
-
-  judge-fields-part-find-start : judge-fields-lts.Need-part-find-start (judge-fields-claims t) (judge-fields-at t) judge-fields.Post judge-fields-Inv-loop judge-fields-μ-loop
-  judge-fields-part-find-start c = omega (arith, fields-quotes (c .before .before))
-
-  judge-fields-part-find-end : judge-fields-lts.Need-part-find-end (judge-fields-claims t) (judge-fields-at t) judge-fields.Post judge-fields-Inv-loop judge-fields-μ-loop
-  judge-fields-part-find-end c = omega (arith, fields-quotes (c .before .before))
-
-  judge-fields-find-requires : judge-fields-lts.Need-find-requires (judge-fields-claims t) (judge-fields-at t) judge-fields.Post judge-fields-Inv-loop judge-fields-μ-loop
-  judge-fields-find-requires c κs = turn-entry (c .before .before .before .before) .pre .1 .document
-
-  judge-fields-judge-field-requires : judge-fields-lts.Need-judge-field-requires (judge-fields-claims t) (judge-fields-at t) judge-fields.Post judge-fields-Inv-loop judge-fields-μ-loop
-  judge-fields-judge-field-requires c κs = (fields-less (c .before .before .before .before .before), field-judgeable (fields-sought c))
 
   judge-fields-returns-2 : judge-fields-lts.Need-returns-2 (judge-fields-claims t) (judge-fields-at t) judge-fields.Post judge-fields-Inv-loop judge-fields-μ-loop
   judge-fields-returns-2 c = field-fails (fields-sought (c .before .before .before)) (c .before .before .judge-field .ensures) (c .if2 .taken)
 
-  judge-fields-add-row-at : judge-fields-lts.Need-add-row-at (judge-fields-claims t) (judge-fields-at t) judge-fields.Post judge-fields-Inv-loop judge-fields-μ-loop
-  judge-fields-add-row-at c = fields-fits (c .before .before .before .before .before .before .before .before)
-
-  judge-fields-row-at-requires-3 : judge-fields-lts.Need-row-at-requires-3 (judge-fields-claims t) (judge-fields-at t) judge-fields.Post judge-fields-Inv-loop judge-fields-μ-loop
-  judge-fields-row-at-requires-3 c κs = in-table (fields-here (c .before .before .before .before .before .before .before .before) .value)
-
-  judge-fields-sub-left : judge-fields-lts.Need-sub-left (judge-fields-claims t) (judge-fields-at t) judge-fields.Post judge-fields-Inv-loop judge-fields-μ-loop
-  judge-fields-sub-left c = omega arith
-
-  judge-fields-loop-less : judge-fields-lts.Need-loop-less (judge-fields-claims t) (judge-fields-at t) judge-fields.Post judge-fields-Inv-loop judge-fields-μ-loop
-  judge-fields-loop-less c = omega arith
-
   judge-fields-loop-again : judge-fields-lts.Need-loop-again (judge-fields-claims t) (judge-fields-at t) judge-fields.Post judge-fields-Inv-loop judge-fields-μ-loop
   judge-fields-loop-again c = field-next (fields-sought (c .before .before .before .before)) (c .before .before .before .judge-field .ensures) (c .before .if2 .left) (c .row-at3 .ensures)
-
-  judge-fields-none-requires-2 : judge-fields-lts.Need-none-requires-2 (judge-fields-claims t) (judge-fields-at t) judge-fields.Post judge-fields-Inv-loop judge-fields-μ-loop
-  judge-fields-none-requires-2 c κs = tt
-
-  judge-fields-returns-3 : judge-fields-lts.Need-returns-3 (judge-fields-claims t) (judge-fields-at t) judge-fields.Post judge-fields-Inv-loop judge-fields-μ-loop
-  judge-fields-returns-3 c = fields-end (c .before .before .loop .inv) (c .before .loop-test .left) (c .none2 .ensures)
 
 -- ---- judge_map
 
@@ -532,59 +358,23 @@ module _ (t : ℕ) where
       Turn (a .document .now) (a .schema .now) (a .rows1 .now) (a .rows2 .now) (a .at) (a .by) (c .before .loop .row)
   map-here c = map-turn (c .before .loop .inv) (c .loop-test .taken)
 
-  judge-map-row-at-requires : judge-map-lts.Need-row-at-requires (judge-map-claims t) (judge-map-at t) judge-map.Post judge-map-Inv-loop judge-map-μ-loop
-  judge-map-row-at-requires c κs = in-table (c .before .before .before .before .pre .1 .given .document)
-
-  judge-map-row-at-requires-2 : judge-map-lts.Need-row-at-requires-2 (judge-map-claims t) (judge-map-at t) judge-map.Post judge-map-Inv-loop judge-map-μ-loop
-  judge-map-row-at-requires-2 c κs = in-table (map-entry (c .before .before) .pre .1 .given .schema)
-
-  judge-map-at-requires : judge-map-lts.Need-at-requires (judge-map-claims t) (judge-map-at t) judge-map.Post judge-map-Inv-loop judge-map-μ-loop
-  judge-map-at-requires c κs = tt
-
   judge-map-returns : judge-map-lts.Need-returns (judge-map-claims t) (judge-map-at t) judge-map.Post judge-map-Inv-loop judge-map-μ-loop
   judge-map-returns c =
       let r = c .before .before .before .before in
       map-other (map-entry r .pre .1) (r .row-at .ensures) (c .before .row-at2 .ensures) (c .before .before .if1 .taken) (c .at .ensures)
 
-  judge-map-add-row : judge-map-lts.Need-add-row (judge-map-claims t) (judge-map-at t) judge-map.Post judge-map-Inv-loop judge-map-μ-loop
-  judge-map-add-row c = let s = map-entry (c .before .before) in omega (arith, in-table (s .pre .1 .given .document) .here, s .good)
-
-  judge-map-loop-holds : judge-map-lts.Need-loop-holds (judge-map-claims t) (judge-map-at t) judge-map.Post judge-map-Inv-loop judge-map-μ-loop
-  judge-map-loop-holds c = let r = c .before .before in map-start (map-entry r .pre .1) (r .row-at .ensures) (c .if1 .left)
-
-  judge-map-add-judge : judge-map-lts.Need-add-judge (judge-map-claims t) (judge-map-at t) judge-map.Post judge-map-Inv-loop judge-map-μ-loop
-  judge-map-add-judge c = omega (arith, in-table (map-here c .one .schema) .here, map-entry (c .before .before .before .before) .good)
-
   judge-map-judge-requires : judge-map-lts.Need-judge-requires (judge-map-claims t) (judge-map-at t) judge-map.Post judge-map-Inv-loop judge-map-μ-loop
   judge-map-judge-requires c κs = (omega (arith, map-here c .less, map-entry (c .before .before .before .before) .pre .0), map-here c .one)
-
-  judge-map-returns-2 : judge-map-lts.Need-returns-2 (judge-map-claims t) (judge-map-at t) judge-map.Post judge-map-Inv-loop judge-map-μ-loop
-  judge-map-returns-2 c = turn-stops (map-here (c .before .before .before)) (c .before .before .judge .ensures) (c .if2 .taken)
-
-  judge-map-row-at-requires-3 : judge-map-lts.Need-row-at-requires-3 (judge-map-claims t) (judge-map-at t) judge-map.Post judge-map-Inv-loop judge-map-μ-loop
-  judge-map-row-at-requires-3 c κs = in-table (map-here (c .before .before .before) .one .document)
 
   judge-map-add-row-2 : judge-map-lts.Need-add-row-2 (judge-map-claims t) (judge-map-at t) judge-map.Post judge-map-Inv-loop judge-map-μ-loop
   judge-map-add-row-2 c =
       let i = c .before .before .before .before .before in
       omega (arith, row-behind (map-here i .one .document) (c .before .row-at3 .ensures .next), map-entry (i .before .before .before .before) .good)
 
-  judge-map-sub-left : judge-map-lts.Need-sub-left (judge-map-claims t) (judge-map-at t) judge-map.Post judge-map-Inv-loop judge-map-μ-loop
-  judge-map-sub-left c = omega arith
-
-  judge-map-loop-less : judge-map-lts.Need-loop-less (judge-map-claims t) (judge-map-at t) judge-map.Post judge-map-Inv-loop judge-map-μ-loop
-  judge-map-loop-less c = omega arith
-
   judge-map-loop-again : judge-map-lts.Need-loop-again (judge-map-claims t) (judge-map-at t) judge-map.Post judge-map-Inv-loop judge-map-μ-loop
   judge-map-loop-again c =
       let i = c .before .before .before .before .before in
       map-next (i .before .loop .inv) (i .loop-test .taken) (c .before .before .before .before .judge .ensures) (c .before .before .if2 .left) (c .before .row-at3 .ensures)
-
-  judge-map-none-requires : judge-map-lts.Need-none-requires (judge-map-claims t) (judge-map-at t) judge-map.Post judge-map-Inv-loop judge-map-μ-loop
-  judge-map-none-requires c κs = tt
-
-  judge-map-returns-3 : judge-map-lts.Need-returns-3 (judge-map-claims t) (judge-map-at t) judge-map.Post judge-map-Inv-loop judge-map-μ-loop
-  judge-map-returns-3 c = map-end (c .before .before .loop .inv) (c .before .loop-test .left) (c .none .ensures)
 
 -- ---- judge_object
 
@@ -622,42 +412,15 @@ module _ (t : ℕ) where
   object-required : (c : judge-object-lts.After-find (judge-object-claims t) (judge-object-at t) judge-object.Post) →
       let a = object-entry (c .before .before .before .before) .args in
       Finds (a .schema .now) (a .rows2 .now) (a .by + 2) (text "required") (c .find .result)
-  object-required c = rw (plain .required) at (c .find .ensures)
+  object-required c = rw (spelled .required) at (c .find .ensures)
 
   object-optional : (c : judge-object-lts.After-find2 (judge-object-claims t) (judge-object-at t) judge-object.Post) →
       let a = object-entry (c .before .before .before .before .before .before) .args in
       Finds (a .schema .now) (a .rows2 .now) (a .by + 2) (text "optional") (c .find2 .result)
-  object-optional c = rw (plain .optional) at (c .find2 .ensures)
-
-  judge-object-row-at-requires : judge-object-lts.Need-row-at-requires (judge-object-claims t) (judge-object-at t) judge-object.Post
-  judge-object-row-at-requires c κs = in-table (c .before .before .before .before .pre .1 .given .document)
-
-  judge-object-row-at-requires-2 : judge-object-lts.Need-row-at-requires-2 (judge-object-claims t) (judge-object-at t) judge-object.Post
-  judge-object-row-at-requires-2 c κs = in-table (object-entry (c .before .before) .pre .1 .given .schema)
-
-  judge-object-at-requires : judge-object-lts.Need-at-requires (judge-object-claims t) (judge-object-at t) judge-object.Post
-  judge-object-at-requires c κs = tt
+  object-optional c = rw (spelled .optional) at (c .find2 .ensures)
 
   judge-object-returns : judge-object-lts.Need-returns (judge-object-claims t) (judge-object-at t) judge-object.Post
   judge-object-returns c = object-other (object-entry (c .before .before .before .before) .pre .1) (c .before .before .before .before .row-at .ensures) (c .before .row-at2 .ensures) (c .before .before .if1 .taken) (c .at .ensures)
-
-  judge-object-add-find : judge-object-lts.Need-add-find (judge-object-claims t) (judge-object-at t) judge-object.Post
-  judge-object-add-find c = object-fits c
-
-  judge-object-slice-aggregate-find : judge-object-lts.Need-slice-aggregate-find (judge-object-claims t) (judge-object-at t) judge-object.Post
-  judge-object-slice-aggregate-find c = search needs
-
-  judge-object-find-requires : judge-object-lts.Need-find-requires (judge-object-claims t) (judge-object-at t) judge-object.Post
-  judge-object-find-requires c κs = object-body (c .before) .body
-
-  judge-object-add-find-2 : judge-object-lts.Need-add-find-2 (judge-object-claims t) (judge-object-at t) judge-object.Post
-  judge-object-add-find-2 c = object-fits (c .before .before)
-
-  judge-object-slice-aggregate-find-2 : judge-object-lts.Need-slice-aggregate-find-2 (judge-object-claims t) (judge-object-at t) judge-object.Post
-  judge-object-slice-aggregate-find-2 c = search needs
-
-  judge-object-find-requires-2 : judge-object-lts.Need-find-requires-2 (judge-object-claims t) (judge-object-at t) judge-object.Post
-  judge-object-find-requires-2 c κs = object-body (c .before .before .before) .body
 
   judge-object-judge-fields-requires : judge-object-lts.Need-judge-fields-requires (judge-object-claims t) (judge-object-at t) judge-object.Post
   judge-object-judge-fields-requires c κs =
@@ -734,7 +497,7 @@ module _ (t : ℕ) where
   -- there is room for their names
   wide-few : (c : judge-wide-lts.Else2 (judge-wide-claims t) (judge-wide-at t) judge-wide.Post judge-wide-Inv-loop judge-wide-μ-loop) →
       let a = wide-start-of (c .before .before .before .before) .args in
-      word (a .rows2 .now) (a .fields) 3 ≤ 2048
+      word (a .rows2 .now) (a .fields) 3 ≤ mostNames
   wide-few c = omega (arith, c .before .wide .ensures (not-false _ (c .if2 .left)), c .before .before .before .row-at .ensures .children)
 
   -- the entry, from a turn
@@ -762,32 +525,14 @@ module _ (t : ℕ) where
       let rows = part-rows (s .args .rows2 .now) (s .args .fields) (wide-row (c .before .before .before .before .before .before .before .before)) in
       omega (arith, field-less (c .before .loop .inv .ahead) (wide-here c .some), rows, s .pre .0)
 
-  judge-wide-none-requires : judge-wide-lts.Need-none-requires (judge-wide-claims t) (judge-wide-at t) judge-wide.Post judge-wide-Inv-loop judge-wide-μ-loop
-  judge-wide-none-requires c κs = tt
-
   judge-wide-returns : judge-wide-lts.Need-returns (judge-wide-claims t) (judge-wide-at t) judge-wide.Post judge-wide-Inv-loop judge-wide-μ-loop
   judge-wide-returns c = fields-none (c .before .before .before .before .before .before .args .required) (c .before .before .before .before .before .before .pre .1) (c .before .if1 .taken) (c .none .ensures)
-
-  judge-wide-row-at-requires : judge-wide-lts.Need-row-at-requires (judge-wide-claims t) (judge-wide-at t) judge-wide.Post judge-wide-Inv-loop judge-wide-μ-loop
-  judge-wide-row-at-requires c κs = in-table (as-row (wide-object c))
-
-  judge-wide-row-at-requires-2 : judge-wide-lts.Need-row-at-requires-2 (judge-wide-claims t) (judge-wide-at t) judge-wide.Post judge-wide-Inv-loop judge-wide-μ-loop
-  judge-wide-row-at-requires-2 c κs = in-table (as-row (wide-start-of (c .before) .pre .1 .document))
-
-  judge-wide-wide-requires : judge-wide-lts.Need-wide-requires (judge-wide-claims t) (judge-wide-at t) judge-wide.Post judge-wide-Inv-loop judge-wide-μ-loop
-  judge-wide-wide-requires c κs = tt
 
   judge-wide-judge-fields-requires : judge-wide-lts.Need-judge-fields-requires (judge-wide-claims t) (judge-wide-at t) judge-wide.Post judge-wide-Inv-loop judge-wide-μ-loop
   judge-wide-judge-fields-requires c κs = let s = wide-start-of (c .before .before .before .before) in (omega (arith, s .pre .0), s .pre .1)
 
-  judge-wide-returns-2 : judge-wide-lts.Need-returns-2 (judge-wide-claims t) (judge-wide-at t) judge-wide.Post judge-wide-Inv-loop judge-wide-μ-loop
-  judge-wide-returns-2 c = c .judge-fields .ensures
-
   judge-wide-match-names-requires : judge-wide-lts.Need-match-names-requires (judge-wide-claims t) (judge-wide-at t) judge-wide.Post judge-wide-Inv-loop judge-wide-μ-loop
-  judge-wide-match-names-requires c κs = let s = wide-start-of (c .before .before .before .before .before) in (s .pre .1 .document, (wide-object (c .before .before .before .before .before), (wide-few (c .before), length-replicate {A = ℕ} 2048 0)))
-
-  judge-wide-cast-count : judge-wide-lts.Need-cast-count (judge-wide-claims t) (judge-wide-at t) judge-wide.Post judge-wide-Inv-loop judge-wide-μ-loop
-  judge-wide-cast-count c = search needs
+  judge-wide-match-names-requires c κs = let s = wide-start-of (c .before .before .before .before .before) in (s .pre .1 .document, (wide-object (c .before .before .before .before .before), (wide-few (c .before), length-replicate {A = ℕ} mostNames 0)))
 
   judge-wide-add-row : judge-wide-lts.Need-add-row (judge-wide-claims t) (judge-wide-at t) judge-wide.Post judge-wide-Inv-loop judge-wide-μ-loop
   judge-wide-add-row c = omega (arith, in-table (as-row (wide-object (c .before .before .before .before .before .before))) .here, wide-start-of (c .before .before .before .before .before .before) .good)
@@ -797,162 +542,124 @@ module _ (t : ℕ) where
       let e = c .before .before .before .before .before .row-at .ensures .children in
       wide-start (wide-start-of (c .before .before .before .before .before .before) .pre .1) (wide-row (c .before .before .before .before .before .before)) e (omega (arith, e, wide-few (c .before .before))) (c .match-names .ensures)
 
-  judge-wide-mul-value : judge-wide-lts.Need-mul-value (judge-wide-claims t) (judge-wide-at t) judge-wide.Post judge-wide-Inv-loop judge-wide-μ-loop
-  judge-wide-mul-value c = omega (arith, c .before .loop .inv .few, c .loop-test .taken)
-
-  judge-wide-array-read-value : judge-wide-lts.Need-array-read-value (judge-wide-claims t) (judge-wide-at t) judge-wide.Post judge-wide-Inv-loop judge-wide-μ-loop
-  judge-wide-array-read-value c = omega (arith, c .before .loop .inv .few, c .loop-test .taken)
-
-  judge-wide-judge-field-requires : judge-wide-lts.Need-judge-field-requires (judge-wide-claims t) (judge-wide-at t) judge-wide.Post judge-wide-Inv-loop judge-wide-μ-loop
-  judge-wide-judge-field-requires c κs = (wide-less c, field-judgeable (wide-here c))
-
-  judge-wide-returns-3 : judge-wide-lts.Need-returns-3 (judge-wide-claims t) (judge-wide-at t) judge-wide.Post judge-wide-Inv-loop judge-wide-μ-loop
-  judge-wide-returns-3 c = field-fails (wide-here (c .before .before .before)) (c .before .before .judge-field .ensures) (c .if3 .taken)
-
   judge-wide-add-row-at : judge-wide-lts.Need-add-row-at (judge-wide-claims t) (judge-wide-at t) judge-wide.Post judge-wide-Inv-loop judge-wide-μ-loop
   judge-wide-add-row-at c = omega (arith, in-table (wide-value (c .before .before .before)) .here, wide-entry (c .before .before .before) .good)
-
-  judge-wide-row-at-requires-3 : judge-wide-lts.Need-row-at-requires-3 (judge-wide-claims t) (judge-wide-at t) judge-wide.Post judge-wide-Inv-loop judge-wide-μ-loop
-  judge-wide-row-at-requires-3 c κs = in-table (wide-value (c .before .before .before))
 
   judge-wide-add-i : judge-wide-lts.Need-add-i (judge-wide-claims t) (judge-wide-at t) judge-wide.Post judge-wide-Inv-loop judge-wide-μ-loop
   judge-wide-add-i c = omega (arith, c .before .before .before .before .before .loop .inv .few, c .before .before .before .before .loop-test .taken)
 
-  judge-wide-loop-less : judge-wide-lts.Need-loop-less (judge-wide-claims t) (judge-wide-at t) judge-wide.Post judge-wide-Inv-loop judge-wide-μ-loop
-  judge-wide-loop-less c = omega arith
-
   judge-wide-loop-again : judge-wide-lts.Need-loop-again (judge-wide-claims t) (judge-wide-at t) judge-wide.Post judge-wide-Inv-loop judge-wide-μ-loop
   judge-wide-loop-again c = wide-next (c .before .before .before .before .before .loop .inv) (c .before .before .before .before .loop-test .taken) (c .before .before .before .judge-field .ensures) (c .before .if3 .left) (c .row-at3 .ensures)
 
-  judge-wide-none-requires-2 : judge-wide-lts.Need-none-requires-2 (judge-wide-claims t) (judge-wide-at t) judge-wide.Post judge-wide-Inv-loop judge-wide-μ-loop
-  judge-wide-none-requires-2 c κs = tt
-
-  judge-wide-returns-4 : judge-wide-lts.Need-returns-4 (judge-wide-claims t) (judge-wide-at t) judge-wide.Post judge-wide-Inv-loop judge-wide-μ-loop
-  judge-wide-returns-4 c = wide-end (c .before .before .loop .inv) (c .before .loop-test .left) (c .none2 .ensures)
-
 pub +judge+judge-array+judge-field+judge-fields+judge-map+judge-object+judge-wide-spec :
     {M : Type 1} → statement M
-+judge+judge-array+judge-field+judge-fields+judge-map+judge-object+judge-wide-spec =
-    close
-    μ-judge
-    μ-judge-array
-    μ-judge-field
-    μ-judge-fields
-    μ-judge-map
-    μ-judge-object
-    μ-judge-wide
-    (λ t. judge-lts.spec (judge-claims t) (judge-at t)
-    judge.Post
-    (judge-row-at-requires t)
++judge+judge-array+judge-field+judge-fields+judge-map+judge-object+judge-wide-spec = close μ-judge μ-judge-array μ-judge-field μ-judge-fields μ-judge-map μ-judge-object μ-judge-wide
+    -- ---- judge
+    (λ t. judge-lts.spec (judge-claims t) (judge-at t) judge.Post
+    (λ c κs. in-table (c .before .before .before .before .pre .1 .schema))  -- row-at-requires
     (judge-judge-named-requires t)
-    (judge-returns t)
-    (judge-add-row-at t)
-    (judge-row-at-requires-2 t)
-    (judge-cast-from t)
-    (judge-add-from t)
-    (judge-cast-to t)
-    (judge-sub-to t)
-    (judge-sub-generic-name t)
-    (judge-part-generic-name-start t)
-    (judge-part-generic-name-end t)
-    (judge-generic-name-requires t)
-    (judge-enum-told t)
+    (λ c. c .judge-named .ensures)  -- returns
+    (λ c. omega (arith, judge-under t c .in-table .here, judge-entry t (c .before .before) .good))  -- add-row-at
+    (λ c κs. judge-under t c .in-table)  -- row-at-requires-2
+    (λ c. search needs)  -- cast-from
+    (λ c. omega (arith, judge-quotes t (c .before), judge-entry t (c .before .before .before .before) .good))  -- add-from
+    (λ c. search needs)  -- cast-to
+    (λ c. omega (arith, judge-quotes t (c .before .before)))  -- sub-to
+    (λ c. omega (arith, judge-quotes t (c .before .before)))  -- sub-generic-name
+    (λ c. omega (arith, judge-quotes t (c .before .before)))  -- part-generic-name-start
+    (λ c. omega (arith, judge-quotes t (c .before .before)))  -- part-generic-name-end
+    (λ c κs. tt)  -- generic-name-requires
+    (λ c. search needs)  -- enum-told
     (judge-judge-array-requires t)
-    (judge-enum-told-2 t)
-    (judge-judge-map-requires t)
-    (judge-judge-object-requires t)
-    (judge-returns-2 t)
-    (judge-returns-3 t)
-    (judge-returns-4 t))
-    (λ t. judge-array-lts.spec (judge-array-claims t) (judge-array-at t)
-    judge-array.Post
-    judge-array-Inv-loop
-    judge-array-μ-loop
-    (judge-array-row-at-requires t)
-    (judge-array-row-at-requires-2 t)
-    (judge-array-at-requires t)
+    (λ c. search needs)  -- enum-told-2
+    (λ c κs. let g = c .before .before in (judge-less t g, reads-map (judge-generic t g) (c .enum-told2 .given .1)))  -- judge-map-requires
+    (λ c κs. (judge-less t (c .before), reads-object (judge-generic t (c .before)) (c .match .keys3)))  -- judge-object-requires
+    (λ c. c .judge-array .ensures)  -- returns-2
+    (λ c. c .judge-map .ensures)  -- returns-3
+    (λ c. c .judge-object .ensures))  -- returns-4
+    -- ---- judge-array
+    (λ t. judge-array-lts.spec (judge-array-claims t) (judge-array-at t) judge-array.Post judge-array-Inv-loop judge-array-μ-loop
+    (λ c κs. in-table (c .before .before .before .before .pre .1 .given .document))  -- row-at-requires
+    (λ c κs. in-table (array-entry t (c .before .before) .pre .1 .given .schema))  -- row-at-requires-2
+    (λ c κs. tt)  -- at-requires
     (judge-array-returns t)
-    (judge-array-add-row t)
-    (judge-array-loop-holds t)
+    (λ c. let s = array-entry t (c .before .before) in omega (arith, in-table (s .pre .1 .given .document) .here, s .good))  -- add-row
+    (λ c. let r = c .before .before in array-start (array-entry t r .pre .1) (r .row-at .ensures) (c .if1 .left))  -- loop-holds
     (judge-array-add-judge t)
     (judge-array-judge-requires t)
-    (judge-array-returns-2 t)
-    (judge-array-row-at-requires-3 t)
-    (judge-array-sub-left t)
-    (judge-array-loop-less t)
+    (λ c. turn-stops (array-here t (c .before .before .before)) (c .before .before .judge .ensures) (c .if2 .taken))  -- returns-2
+    (λ c κs. in-table (array-here t (c .before .before .before) .one .document))  -- row-at-requires-3
+    (λ c. omega arith)  -- sub-left
+    (λ c. omega arith)  -- loop-less
     (judge-array-loop-again t)
-    (judge-array-none-requires t)
-    (judge-array-returns-3 t))
-    (λ t. judge-field-lts.spec (judge-field-claims t) (judge-field-at t)
-    judge-field.Post
-    (judge-field-add-judge t)
+    (λ c κs. tt)  -- none-requires
+    (λ c. array-end (c .before .before .loop .inv) (c .before .loop-test .left) (c .none .ensures)))  -- returns-3
+    -- ---- judge-field
+    (λ t. judge-field-lts.spec (judge-field-claims t) (judge-field-at t) judge-field.Post
+    (λ c. let s = c .before .before .before .before .before in omega (arith, in-table (s .pre .1 .schema) .here, s .good))  -- add-judge
     (judge-field-judge-requires t)
-    (judge-field-returns t)
-    (judge-field-row-at-requires t)
-    (judge-field-row-at-requires-2 t)
-    (judge-field-at-requires t)
+    (λ c. field-found (c .before .if1 .taken) (c .judge .ensures))  -- returns
+    (λ c κs. in-table (as-row (c .before .before .before .before .before .before .pre .1 .document)))  -- row-at-requires
+    (λ c κs. c .before .before .before .before .before .before .before .pre .1 .name)  -- row-at-requires-2
+    (λ c κs. tt)  -- at-requires
     (judge-field-returns-2 t)
-    (judge-field-none-requires t)
-    (judge-field-returns-3 t))
-    (λ t. judge-fields-lts.spec (judge-fields-claims t) (judge-fields-at t)
-    judge-fields.Post
-    judge-fields-Inv-loop
-    judge-fields-μ-loop
-    (judge-fields-none-requires t)
+    (λ c κs. tt)  -- none-requires
+    (λ c. field-skipped (c .before .before .if1 .left) (c .before .if2 .left) (c .none .ensures)))  -- returns-3
+    -- ---- judge-fields
+    (λ t. judge-fields-lts.spec (judge-fields-claims t) (judge-fields-at t) judge-fields.Post judge-fields-Inv-loop judge-fields-μ-loop
+    (λ c κs. tt)  -- none-requires
     (judge-fields-returns t)
-    (judge-fields-row-at-requires t)
-    (judge-fields-add-row t)
-    (judge-fields-loop-holds t)
-    (judge-fields-row-at-requires-2 t)
-    (judge-fields-cast-from t)
-    (judge-fields-add-from t)
-    (judge-fields-cast-to t)
-    (judge-fields-sub-to t)
-    (judge-fields-sub-find t)
-    (judge-fields-part-find-start t)
-    (judge-fields-part-find-end t)
-    (judge-fields-find-requires t)
-    (judge-fields-judge-field-requires t)
+    (λ c κs. in-table (as-row (fields-object t c)))  -- row-at-requires
+    (λ c. omega (arith, in-table (as-row (fields-object t (c .before))) .here, fields-entry t (c .before) .good))  -- add-row
+    (λ c. fields-start (fields-entry t (c .before) .pre .1) (fields-row t (c .before)) (c .row-at .ensures .children))  -- loop-holds
+    (λ c κs. fields-here t c .in-table)  -- row-at-requires-2
+    (λ c. search needs)  -- cast-from
+    (λ c. omega (arith, fields-quotes t (c .before), turn-entry t (c .before .before) .good))  -- add-from
+    (λ c. search needs)  -- cast-to
+    (λ c. omega (arith, fields-quotes t (c .before .before)))  -- sub-to
+    (λ c. omega (arith, fields-quotes t (c .before .before)))  -- sub-find
+    (λ c. omega (arith, fields-quotes t (c .before .before)))  -- part-find-start
+    (λ c. omega (arith, fields-quotes t (c .before .before)))  -- part-find-end
+    (λ c κs. turn-entry t (c .before .before .before .before) .pre .1 .document)  -- find-requires
+    (λ c κs. (fields-less t (c .before .before .before .before .before), field-judgeable (fields-sought t c)))  -- judge-field-requires
     (judge-fields-returns-2 t)
-    (judge-fields-add-row-at t)
-    (judge-fields-row-at-requires-3 t)
-    (judge-fields-sub-left t)
-    (judge-fields-loop-less t)
+    (λ c. fields-fits t (c .before .before .before .before .before .before .before .before))  -- add-row-at
+    (λ c κs. in-table (fields-here t (c .before .before .before .before .before .before .before .before) .value))  -- row-at-requires-3
+    (λ c. omega arith)  -- sub-left
+    (λ c. omega arith)  -- loop-less
     (judge-fields-loop-again t)
-    (judge-fields-none-requires-2 t)
-    (judge-fields-returns-3 t))
-    (λ t. judge-map-lts.spec (judge-map-claims t) (judge-map-at t)
-    judge-map.Post
-    judge-map-Inv-loop
-    judge-map-μ-loop
-    (judge-map-row-at-requires t)
-    (judge-map-row-at-requires-2 t)
-    (judge-map-at-requires t)
+    (λ c κs. tt)  -- none-requires-2
+    (λ c. fields-end (c .before .before .loop .inv) (c .before .loop-test .left) (c .none2 .ensures)))  -- returns-3
+    -- ---- judge-map
+    (λ t. judge-map-lts.spec (judge-map-claims t) (judge-map-at t) judge-map.Post judge-map-Inv-loop judge-map-μ-loop
+    (λ c κs. in-table (c .before .before .before .before .pre .1 .given .document))  -- row-at-requires
+    (λ c κs. in-table (map-entry t (c .before .before) .pre .1 .given .schema))  -- row-at-requires-2
+    (λ c κs. tt)  -- at-requires
     (judge-map-returns t)
-    (judge-map-add-row t)
-    (judge-map-loop-holds t)
-    (judge-map-add-judge t)
+    (λ c. let s = map-entry t (c .before .before) in omega (arith, in-table (s .pre .1 .given .document) .here, s .good))  -- add-row
+    (λ c. let r = c .before .before in map-start (map-entry t r .pre .1) (r .row-at .ensures) (c .if1 .left))  -- loop-holds
+    (λ c. omega (arith, in-table (map-here t c .one .schema) .here, map-entry t (c .before .before .before .before) .good))  -- add-judge
     (judge-map-judge-requires t)
-    (judge-map-returns-2 t)
-    (judge-map-row-at-requires-3 t)
+    (λ c. turn-stops (map-here t (c .before .before .before)) (c .before .before .judge .ensures) (c .if2 .taken))  -- returns-2
+    (λ c κs. in-table (map-here t (c .before .before .before) .one .document))  -- row-at-requires-3
     (judge-map-add-row-2 t)
-    (judge-map-sub-left t)
-    (judge-map-loop-less t)
+    (λ c. omega arith)  -- sub-left
+    (λ c. omega arith)  -- loop-less
     (judge-map-loop-again t)
-    (judge-map-none-requires t)
-    (judge-map-returns-3 t))
-    (λ t. judge-object-lts.spec (judge-object-claims t) (judge-object-at t)
-    judge-object.Post
-    (judge-object-row-at-requires t)
-    (judge-object-row-at-requires-2 t)
-    (judge-object-at-requires t)
+    (λ c κs. tt)  -- none-requires
+    (λ c. map-end (c .before .before .loop .inv) (c .before .loop-test .left) (c .none .ensures)))  -- returns-3
+    -- ---- judge-object
+    (λ t. judge-object-lts.spec (judge-object-claims t) (judge-object-at t) judge-object.Post
+    (λ c κs. in-table (c .before .before .before .before .pre .1 .given .document))  -- row-at-requires
+    (λ c κs. in-table (object-entry t (c .before .before) .pre .1 .given .schema))  -- row-at-requires-2
+    (λ c κs. tt)  -- at-requires
     (judge-object-returns t)
-    (judge-object-add-find t)
-    (judge-object-slice-aggregate-find t)
-    (judge-object-find-requires t)
-    (judge-object-add-find-2 t)
-    (judge-object-slice-aggregate-find-2 t)
-    (judge-object-find-requires-2 t)
+    (object-fits t)  -- add-find
+    (λ c. search needs)  -- slice-aggregate-find
+    (λ c κs. object-body t (c .before) .body)  -- find-requires
+    (λ c. object-fits t (c .before .before))  -- add-find-2
+    (λ c. search needs)  -- slice-aggregate-find-2
+    (λ c κs. object-body t (c .before .before .before) .body)  -- find-requires-2
     (judge-object-judge-fields-requires t)
     (judge-object-returns-2 t)
     (judge-object-judge-fields-requires-2 t)
@@ -961,29 +668,27 @@ pub +judge+judge-array+judge-field+judge-fields+judge-map+judge-object+judge-wid
     (judge-object-returns-4 t)
     (judge-object-judge-wide-requires-2 t)
     (judge-object-returns-5 t))
-    λ t. judge-wide-lts.spec (judge-wide-claims t) (judge-wide-at t)
-    judge-wide.Post
-    judge-wide-Inv-loop
-    judge-wide-μ-loop
-    (judge-wide-none-requires t)
+    -- ---- judge-wide
+    λ t. judge-wide-lts.spec (judge-wide-claims t) (judge-wide-at t) judge-wide.Post judge-wide-Inv-loop judge-wide-μ-loop
+    (λ c κs. tt)  -- none-requires
     (judge-wide-returns t)
-    (judge-wide-row-at-requires t)
-    (judge-wide-row-at-requires-2 t)
-    (judge-wide-wide-requires t)
+    (λ c κs. in-table (as-row (wide-object t c)))  -- row-at-requires
+    (λ c κs. in-table (as-row (wide-start-of t (c .before) .pre .1 .document)))  -- row-at-requires-2
+    (λ c κs. tt)  -- wide-requires
     (judge-wide-judge-fields-requires t)
-    (judge-wide-returns-2 t)
+    (λ c. c .judge-fields .ensures)  -- returns-2
     (judge-wide-match-names-requires t)
-    (judge-wide-cast-count t)
+    (λ c. search needs)  -- cast-count
     (judge-wide-add-row t)
     (judge-wide-loop-holds t)
-    (judge-wide-mul-value t)
-    (judge-wide-array-read-value t)
-    (judge-wide-judge-field-requires t)
-    (judge-wide-returns-3 t)
+    (λ c. omega (arith, c .before .loop .inv .few, c .loop-test .taken))  -- mul-value
+    (λ c. omega (arith, c .before .loop .inv .few, c .loop-test .taken))  -- array-read-value
+    (λ c κs. (wide-less t c, field-judgeable (wide-here t c)))  -- judge-field-requires
+    (λ c. field-fails (wide-here t (c .before .before .before)) (c .before .before .judge-field .ensures) (c .if3 .taken))  -- returns-3
     (judge-wide-add-row-at t)
-    (judge-wide-row-at-requires-3 t)
+    (λ c κs. in-table (wide-value t (c .before .before .before)))  -- row-at-requires-3
     (judge-wide-add-i t)
-    (judge-wide-loop-less t)
+    (λ c. omega arith)  -- loop-less
     (judge-wide-loop-again t)
-    (judge-wide-none-requires-2 t)
-    (judge-wide-returns-4 t)
+    (λ c κs. tt)  -- none-requires-2
+    (λ c. wide-end (c .before .before .loop .inv) (c .before .loop-test .left) (c .none2 .ensures))  -- returns-4

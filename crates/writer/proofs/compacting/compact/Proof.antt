@@ -3,7 +3,7 @@ use mathlib.Core.Path.{sym, ap, _∙_}
 use native.Mathlib.Omega.{arith}
 use lib.ListN.{length}
 use borrow.Author.Needs.{needs}
-use Rattle.reader.specs.declared.answers.Answer.{Answer}
+use Rattle.syntax.specs.declared.answers.Answer.{Answer}
 use Rattle.writer.proofs.Texts.{tokens-short}
 use Rattle.writer.proofs.Answers.{refused-stays, Read, read-done}
 use Rattle.writer.proofs.compacting.compact.Statement.{statement}

@@ -5,7 +5,7 @@ use mathlib.Core.List.{List, [], _∷_, _++_}
 use native.Mathlib.Omega.{arith}
 use lib.ListN.{length}
 use borrow.Author.Needs.{needs}
-use Rattle.chars.proofs.Facts.{quoted-bounds}
+use Rattle.tokens.proofs.Facts.{quoted-bounds}
 use Rattle.writer.specs.Tokens.{stretchBytes}
 use Rattle.writer.proofs.pieces.Laws.{InString, in-opened, in-text, in-whole, in-piece}
 use Rattle.writer.proofs.pieces.measure_string.Statement.{statement}

@@ -5,7 +5,7 @@ use mathlib.Core.List.{List, [], _∷_, _++_}
 use native.Mathlib.Omega.{arith}
 use lib.ListN.{length, set, length-set}
 use borrow.Author.Needs.{needs}
-use Rattle.chars.proofs.Facts.{quoted-bounds}
+use Rattle.tokens.proofs.Facts.{quoted-bounds}
 use Rattle.writer.specs.declared.pieces.Piece.{Piece}
 use Rattle.writer.specs.Compact.{over}
 use Rattle.writer.specs.Tokens.{stretchBytes, stringBytes}

@@ -3,7 +3,7 @@ use mathlib.Core.Path.{ap}
 use mathlib.Core.Bool.{not}
 use borrow.Author.Needs.{needs}
 use borrow.Author.Tests.{ne-eqb}
-use Rattle.chars.specs.Space.{isSpace}
+use Rattle.tokens.specs.Space.{isSpace}
 use Rattle.writer.specs.Runs.{isAtom}
 use Rattle.writer.proofs.runs.is_atom.Statement.{statement}
 use Rattle.writer.proofs.runs.is_atom.Tie as tie

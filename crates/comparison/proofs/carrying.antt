@@ -1,0 +1,4 @@
+pub mod TypeNames
+pub mod Decision
+pub mod Shapes
+pub mod Fields

@@ -1,0 +1,4 @@
+-- For private contracts: what the first pass keeps.
+pub mod Packing
+pub mod Marks
+pub mod Names

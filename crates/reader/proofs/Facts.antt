@@ -1,0 +1,2 @@
+-- What the crates above cite.
+pub use Rattle.reader.proofs.scanning.Outcomes.{answer-zero}

@@ -1,0 +1,4 @@
+pub mod Closing
+pub mod Laws
+pub mod Leaves
+pub mod Outcomes

@@ -1,0 +1,61 @@
+-- Values that hold no other, in the first pass on plain values: what was read, and the row that is kept of it.
+use mathlib.Core.Path.{_≡_, refl, sym, ap, _∙_}
+use mathlib.Core.List.{List}
+use Prim.Native.Nat.{ℕ, _≤_, _<_}
+use native.Mathlib.Omega.{arith}
+use lib.ListN.{length, set}
+use Rattle.tokens.specs.Parse.{Parse, refused, parsed}
+use Rattle.tokens.specs.Tokens.{Kind, Null, False, True, Whole, Fractional, Quoted, kindNumber, tokenOf}
+use Rattle.tokens.specs.Scalars.{scalarAt}
+use Rattle.tokens.specs.declared.tokens.Token.{Token}
+use Rattle.tokens.specs.declared.tokens.Token.the-variants.{Taken, Broken}
+use Rattle.tokens.proofs.Facts.{scalar-bounded}
+use Rattle.syntax.specs.Rows.{row as rowOf}
+use Rattle.syntax.specs.Grammar.{leafAt}
+use Rattle.marks.specs.Marks.{leafMark, isName, markRow}
+use Rattle.reader.specs.Scanning.{LeafReady, LeafTold}
+use Rattle.reader.specs.declared.scanning.Scanned.the-variants.{Refused, Value}
+use Rattle.marks.proofs.Facts.{leaf-row, leaf-unnamed}
+
+kind-small : (k : Kind) → kindNumber k < 65536
+kind-small Null = omega arith
+kind-small False = omega arith
+kind-small True = omega arith
+kind-small Whole = omega arith
+kind-small Fractional = omega arith
+kind-small Quoted = omega arith
+
+token-broken : (o : Parse Kind) {c p : ℕ} → tokenOf o ≡ Broken c p → o ≡ refused c p
+token-broken (refused c p) q = cc
+token-broken (parsed k e) q = cc
+
+token-taken : (o : Parse Kind) {k e : ℕ} → tokenOf o ≡ Taken k e → (n : Kind) × (o ≡ parsed n e) × (k ≡ kindNumber n)
+token-taken (refused c p) q = absurd (let z : _≡_ {A = ℕ} 0 1 = cc in omega arith)
+token-taken (parsed n f) {k} {e} q = let z : f ≡ e = cc in (n, ap (parsed n) z, cc)
+
+-- x is what was read
+module _ {s ms : List ℕ} {row i : ℕ} (h : LeafReady s ms row i) {x : Token} (q : x ≡ tokenOf (scalarAt s i)) where
+  pub leaf-broken : {c p : ℕ} → x ≡ Broken c p → LeafTold (leafAt s i) (Refused c p) row ms ms
+  leaf-broken z = rw (token-broken (scalarAt s i) (sym q ∙ z)) (record { scan = refl; after = refl })
+
+  module _ {k e : ℕ} (z : x ≡ Taken k e) where
+    abbrev taken : (n : Kind) × (scalarAt s i ≡ parsed n e) × (k ≡ kindNumber n)
+    taken = token-taken (scalarAt s i) (sym q ∙ z)
+
+    pub leaf-fits : ((k < 65536) × (i < e) × (e ≤ 65536)) × (row < length ms)
+    leaf-fits =
+        let b : (i < e) × (e ≤ length s) = rw (taken .1) at (scalar-bounded s i) in
+        ((omega (arith, taken .2, kind-small (taken .0)), b .0, omega (arith, h .short)), h .free (omega arith))
+
+    pub leaf-noted : {m : ℕ} → m ≡ leafMark k i e → LeafTold (leafAt s i) (Value e 1) row ms (set ms row m)
+    leaf-noted {m} w =
+        let f = leaf-fits .0 in
+        rw (taken .1) (record {
+          scan = refl;
+          after = (
+            m,
+            refl,
+            ap markRow w ∙ leaf-row k i e (f .0) (f .1) (f .2) ∙ ap (λ (y : ℕ). rowOf y i e 0 1) (taken .2),
+            ap isName w ∙ leaf-unnamed k i e (f .0) (f .1) (f .2),
+          );
+        })

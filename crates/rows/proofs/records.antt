@@ -1,0 +1,3 @@
+pub mod Elements
+pub mod Members
+pub mod Trees

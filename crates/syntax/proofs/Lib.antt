@@ -1,0 +1,10 @@
+pub mod Examples
+pub mod Facts
+pub mod Holding
+pub mod Induction
+pub mod Items
+pub mod Json
+pub mod Placing
+pub mod Sizes
+pub mod Theorems
+pub mod Values

@@ -1,0 +1,4 @@
+pub mod Bounds
+pub mod Examples
+pub mod Facts
+pub mod Pieces

@@ -1,0 +1,49 @@
+-- A word, byte by byte from its kth on; what a value begins with, by its tag.
+use mathlib.Core.Path.{_≡_, refl}
+use mathlib.Core.List.{List}
+use mathlib.Core.Logic.{_⊎_, inl, inr}
+use Prim.Native.Nat.{ℕ, _+_, _≤_, _<_}
+use native.Mathlib.Numerals.{add-one}
+use native.Mathlib.Omega.{arith}
+use denote.Enum.Declared.{tagOf}
+use lib.ListN.{length, drop, getD, drop-of-length-le}
+use lib.Seq.{drop-cons}
+use lib.Dec.{lit<}
+use borrow.Author.Tests.{eq-eqb, ne-eqb}
+use Rattle.chars.specs.Bytes.{byteAt}
+use Rattle.tokens.specs.Parse.{parsed, unexpected}
+use Rattle.tokens.specs.Tokens.{Kind}
+use Rattle.tokens.specs.Scalars.{wordAt, scalarBy}
+use Rattle.tokens.specs.declared.scalars.First.{First}
+use Rattle.tokens.specs.declared.scalars.First.the-variants.{Array, Object, Quote, Number, LetterN, LetterF, LetterT, Other}
+use Rattle.tokens.proofs.scalars.First.{the-type}
+
+module _ (t : Kind) (w s : List ℕ) (i k : ℕ) where
+  pub word-next : k < length w → byteAt s i ≡ getD w k 0 → wordAt t (drop k w) s i ≡ wordAt t (drop (k + 1) w) s (i + 1)
+  unfolding wordAt
+  word-next h e = rw (add-one k, drop-cons w k 0 h, eq-eqb (byteAt s i) _ e)
+
+  pub word-stop : k < length w → (byteAt s i ≡ getD w k 0 → ⊥) → wordAt t (drop k w) s i ≡ unexpected s i
+  unfolding wordAt
+  word-stop h n = rw (drop-cons w k 0 h, ne-eqb (byteAt s i) _ n)
+
+  pub word-end : length w ≤ k → wordAt t (drop k w) s i ≡ parsed t i
+  unfolding wordAt
+  word-end h = rw (drop-of-length-le w h)
+
+-- a tag that is none of the three
+none : (t : ℕ) → (t ≡ 0) ⊎ ((t ≡ 1) ⊎ (t ≡ 7)) → 1 < t → t < 7 → ⊥
+none t (inl e) l h = omega arith
+none t (inr (inl e)) l h = omega arith
+none t (inr (inr e)) l h = omega arith
+
+-- `Array`, `Object` and `Other` begin no value that holds no other
+pub scalar-none : (s : List ℕ) (i : ℕ) (f : First) → (tagOf the-type f ≡ 0) ⊎ ((tagOf the-type f ≡ 1) ⊎ (tagOf the-type f ≡ 7)) → scalarBy f s i ≡ unexpected s i
+scalar-none s i Array h = refl
+scalar-none s i Object h = refl
+scalar-none s i Quote h = absurd (none 2 h (lit< tt) (lit< tt))
+scalar-none s i Number h = absurd (none 3 h (lit< tt) (lit< tt))
+scalar-none s i LetterN h = absurd (none 4 h (lit< tt) (lit< tt))
+scalar-none s i LetterF h = absurd (none 5 h (lit< tt) (lit< tt))
+scalar-none s i LetterT h = absurd (none 6 h (lit< tt) (lit< tt))
+scalar-none s i Other h = refl
