@@ -1,10 +1,11 @@
 -- A run of bytes that pass a test: a step of it, where it stops, its bounds.
-use mathlib.Core.Path.{_≡_, refl}
+use mathlib.Core.Path.{_≡_, refl, sym, _∙_}
 use mathlib.Core.List.{List}
-use mathlib.Core.Bool.{Bool, true, false, cond}
+use mathlib.Core.Bool.{Bool, true, false, not, cond}
 use Prim.Native.Nat.{ℕ, zero, suc, _+_, _-_, _≤_, _<_}
 use native.Mathlib.Omega.{arith}
 use lib.ListN.{length}
+use borrow.Author.Tests.{not-true, not-false}
 use Rattle.model.proofs.Basics.{both}
 use Rattle.chars.specs.Bytes.{byteAt}
 use Rattle.chars.specs.Runs.{runFrom, run}
@@ -25,6 +26,14 @@ module _ (p : ℕ → Bool) (s : List ℕ) where
       go : (k : ℕ) → runFrom k p s i ≡ i
       go zero = refl
       go (suc k) = rw t
+
+  -- as a loop tests it: t is what the test tells of the byte at i
+  module _ (i : ℕ) {t : Bool} (told : t ≡ p (byteAt s i)) where
+    pub run-over : i < length s → not t ≡ false → run p s i ≡ run p s (i + 1)
+    run-over h n = run-next i h (sym told ∙ not-false t n)
+
+    pub run-left : not t ≡ true → run p s i ≡ i
+    run-left n = run-stop i (sym told ∙ not-true t n)
 
   from-bound : (k i : ℕ) → (i ≤ runFrom k p s i) × (runFrom k p s i ≤ i + k)
   unfolding runFrom

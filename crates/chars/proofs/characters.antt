@@ -1,1 +1,3 @@
+pub mod Escapes
 pub mod Laws
+pub mod Utf8

@@ -8,7 +8,7 @@ use Rattle.chars.specs.declared.characters.Step.{Step}
 use Rattle.chars.specs.declared.characters.Step.the-variants.{Char, Quote, Refused}
 use Rattle.chars.specs.declared.characters.Hex.{Hex}
 use Rattle.chars.specs.declared.characters.Hex.the-variants.{Pair, Bad}
-use Rattle.chars.specs.Bytes.{byteAt, from-to, codeOf, digit, named, lowest, highest, sixBits}
+use Rattle.chars.specs.Bytes.{byteAt, from-to, codeOf, digit, escapeOf, lowest, highest, sixBits}
 
 -- the byte at i is an offence with the code c, unless the text ended before it
 unfoldable pub stopAt : List ℕ → ℕ → ℕ → Step
@@ -59,7 +59,7 @@ unicodeAt s i = withPair s (λ h. cond (from-to 0xDC 0xDF h) (Refused 5 (i + 3))
 unfoldable pub escapeAt : List ℕ → ℕ → Step
 escapeAt s i =
     let b = byteAt s (i + 1) in
-    cond (eqb b 0x75) (unicodeAt s i) (cond (eqb (named b) 0) (wrongAt s (i + 1)) (Char (named b) (i + 2)))
+    cond (eqb b 0x75) (unicodeAt s i) (cond (eqb (escapeOf b) 0) (wrongAt s (i + 1)) (Char (escapeOf b) (i + 2)))
 
 -- characters of two, three and four bytes, of which the first, b, is at i
 unfoldable pub twoAt : List ℕ → ℕ → ℕ → Step

@@ -1,5 +1,6 @@
--- For private contracts: the hash of a name's characters, by which the reader finds a repeated one.
-use Prim.Native.Nat.{ℕ, _+_, _-_, _*_, _/_, _%_}
+-- For private contracts: the hash of a name's characters, and the order in which an index of names by hash leads through them.
+use Prim.Native.Nat.{ℕ, zero, suc, _+_, _-_, _*_, _/_, _%_}
+use mathlib.Core.Bool.{Bool, cond}
 use mathlib.Core.List.{List, [], _∷_}
 use Rattle.chars.specs.declared.strings.Scan.{Scan}
 use Rattle.chars.specs.declared.strings.Scan.the-variants.{Ends, Stopped}
@@ -30,3 +31,10 @@ hashedBy s i (Stopped c p) = Broken c p
 -- the name whose characters begin at i
 unfoldable pub hashedAt : List ℕ → ℕ → Hashed
 hashedAt s i = hashedBy s i (stringAt s i)
+
+-- ---- an index leads from the last name of a bucket to the one before it
+
+-- the last number below n that passes the test; 0 for none
+unfoldable pub lastPassing : (ℕ → Bool) → ℕ → ℕ
+lastPassing p zero = 0
+lastPassing p (suc n) = let r = lastPassing p n in cond (p n) n r

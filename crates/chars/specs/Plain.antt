@@ -1,4 +1,4 @@
--- For private contracts: runs of bytes that stand for themselves in a string, and of characters of several bytes, which are passed at once.
+-- For private contracts: runs of bytes that stand for themselves in a string, which are passed at once.
 use Prim.Native.Nat.{ℕ}
 use mathlib.Core.Bool.{Bool, not, _&&_}
 use mathlib.Core.List.{List}

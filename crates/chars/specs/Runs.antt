@@ -1,4 +1,4 @@
--- Runs of bytes, and space (01, "Text").
+-- Runs of bytes that pass a test.
 use Prim.Native.Nat.{ℕ, zero, suc, _+_, _-_}
 use mathlib.Core.List.{List}
 use mathlib.Core.Bool.{Bool, cond}

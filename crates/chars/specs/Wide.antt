@@ -1,4 +1,4 @@
--- For private contracts: runs of bytes that stand for themselves in a string, and of characters of several bytes, which are passed at once.
+-- For private contracts: a character of several bytes, which is passed without its value.
 use Prim.Native.Nat.{ℕ}
 use mathlib.Core.Path.{_≡_}
 use mathlib.Core.Logic.{_⊎_}

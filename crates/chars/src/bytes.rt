@@ -1,7 +1,7 @@
 // Classes of bytes (01, "Text").
 ghost use mathlib.Core.Path.{_≡_};
 ghost use Prim.Native.Nat.{_≤_};
-ghost use Rattle.chars.specs.Bytes.{byteAt, codeOf, digit, named, lowest, highest, sixBits};
+ghost use Rattle.chars.specs.Bytes.{byteAt, codeOf, digit, escapeOf, lowest, highest, sixBits};
 
 pub fn wide(b: u8) -> u32
     ensures { λ r. ⌜ r ≡ b ⌝ }
@@ -40,8 +40,8 @@ pub fn digit(b: u8) -> u8
 }
 
 // The character that a letter behind a backslash names, and 0 of any other byte.
-pub fn named(b: u8) -> u8
-    ensures { λ r. ⌜ r ≡ named b ⌝ }
+pub fn escape_of(b: u8) -> u8
+    ensures { λ r. ⌜ r ≡ escapeOf b ⌝ }
 {
     match b {
         b'"' => 0x22,

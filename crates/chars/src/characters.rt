@@ -1,9 +1,9 @@
 // The characters of a string, one at a time: UTF-8 and escapes (01, "Text").
 use crate::bytes::code_of;
 use crate::bytes::digit_at;
+use crate::bytes::escape_of;
 use crate::bytes::highest;
 use crate::bytes::lowest;
-use crate::bytes::named;
 use crate::bytes::peek;
 use crate::bytes::six_at;
 use crate::bytes::wide;
@@ -142,7 +142,7 @@ fn escape(text: &[u8], at: usize) -> Step
     if b == b'u' {
         return unicode(text, at);
     }
-    let value = named(b);
+    let value = escape_of(b);
     if value == 0 {
         return wrong(text, at + 1);
     }

@@ -1,4 +1,4 @@
-// What a text is made of: bytes, characters and strings.
+// What a text is made of: bytes, characters, strings, and names with a hash of their characters.
 mod bytes;
 mod characters;
 mod hashing;

@@ -14,7 +14,7 @@ pub fn is_plain(b: u8) -> bool
 }
 
 // The first place from `at` on that holds no such byte.
-pub fn plain(text: &[u8], at: usize) -> usize
+pub fn plain_end(text: &[u8], at: usize) -> usize
     ensures { λ r. ⌜ r ≡ plainEnd (now (text .entry)) at ⌝ }
 {
     let mut i = at;

@@ -4,7 +4,7 @@ use crate::characters::Step;
 use crate::characters::char_at;
 use crate::characters::special;
 use crate::plain::is_plain;
-use crate::plain::plain;
+use crate::plain::plain_end;
 use crate::wide::wides;
 ghost use mathlib.Core.Path.{_≡_};
 ghost use Rattle.model.specs.Text.{same};
@@ -22,7 +22,7 @@ pub fn string_end(text: &[u8], at: usize) -> Scan
 {
     let mut i = at;
     loop {
-        i = wides(text, plain(text, i));
+        i = wides(text, plain_end(text, i));
         if peek(text, i) == b'"' {
             return Scan::Ends(i + 1);
         }

@@ -1,7 +1,12 @@
 -- What the crates above cite.
-pub use Rattle.comparison.proofs.carrying.Decision.{field-all, field-any, field-or, orDef}
-pub use Rattle.comparison.proofs.carrying.Fields.{fields-none}
-pub use Rattle.comparison.proofs.carrying.Shapes.{array-less, array-pair, map-less, map-pair, object-less, object-row, optional-pair, required-pair}
-pub use Rattle.comparison.proofs.carrying.TypeNames.{of-name}
+-- one answer to two texts
 pub use Rattle.comparison.proofs.comparing.Laws.{one-answer}
-pub use Rattle.comparison.proofs.fields.Laws.{object-body, object-fields, of-kind, optional-fields, required-fields}
+-- the type that a name stands for
+pub use Rattle.comparison.proofs.carrying.TypeNames.{of-name}
+-- the decision on one field
+pub use Rattle.comparison.proofs.carrying.Decision.{field-all, field-any, field-or, orDef}
+-- the definitions inside two that are compared, and their rows
+pub use Rattle.comparison.proofs.carrying.Shapes.{array-less, array-pair, map-less, map-pair, object-less, object-row, optional-pair}
+pub use Rattle.comparison.proofs.carrying.Shapes.{required-pair}
+-- no fields, none fails
+pub use Rattle.comparison.proofs.carrying.Fields.{failing-absent}

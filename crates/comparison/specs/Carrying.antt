@@ -1,4 +1,4 @@
--- For private contracts: what the walkers of Compare are given, and what they answer.
+-- For private contracts: what the walk over two definitions is given, and what it answers (carrying.rt).
 use Prim.Native.Nat.{ℕ, _+_, _<_}
 use mathlib.Core.Bool.{Bool, false, cond}
 use mathlib.Core.Option.{Option, none, some}
@@ -17,6 +17,8 @@ use Rattle.definitions.specs.Definitions.{bare, bareFields}
 use Rattle.rows.specs.Records.{InTable}
 use Rattle.definitions.specs.Shapes.{DefinedRow, GenericRow, FieldsRow}
 use Rattle.comparison.specs.Fields.{definitionUnder}
+
+-- ---- type names
 
 -- the type that a name stands for, of an unknown one none
 abbrev pub typeOf : TypeName → Option Named

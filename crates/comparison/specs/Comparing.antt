@@ -23,13 +23,15 @@ pub record Schema (w : ℕ) (s : List ℕ) (d : Def) : Type 0 where
 abbrev pub Compared : Def → Def → Answer → Type 0
 Compared a b r = ((r ≡ answer 0 0 0 0) × Carried a b) ⊎ ((r ≡ answer 30 0 0 0) × NotCarried a b)
 
--- ---- the answer on two texts: "Compare takes the new schema wholly first", so a refusal of it, then a refusal of the old one, then what is said of their definitions
+-- ---- the answer on two texts: "Compare takes the new schema wholly first", so a refusal of it, then a refusal of the old one, then what is said
+-- of their definitions
 abbrev pub Answers : Accepted → Accepted → Answer → Type 0
 Answers (not-accepted a) x r = r ≡ a
 Answers (accepted d) (not-accepted a) r = r ≡ a
 Answers (accepted d) (accepted e) r = Compared (bare d) (bare e) r
 
--- the promise of the answer r, for schemas with tables of w₁ and w₂ words: `answers` leaves one for all bytes (`one-answer` of proofs/Compared.antt); `compares` says it of the values that two accepted texts spell
+-- the promise of the answer r, for schemas with tables of w₁ and w₂ words: `answers` leaves one for all bytes (`one-answer` of
+-- proofs/comparing/Laws.antt); `compares` says it of the values that two accepted texts spell
 pub record Compares (w₁ w₂ : ℕ) (new old : List ℕ) (r : Answer) : Type 0 where
   pub answers : Answers (accept 1 w₁ new) (accept 2 w₂ old) r
   pub compares : (a b : Def) → Schema w₁ new a → Schema w₂ old b → Compared a b r

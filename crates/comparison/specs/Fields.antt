@@ -1,4 +1,4 @@
--- For private contracts: what the walkers of Compare are given, and what they answer.
+-- For private contracts: the definition that one has under a name, as the look-ups of fields.rt find it by rows.
 use Prim.Native.Nat.{ℕ, _≤_, _<_}
 use mathlib.Core.Path.{_≡_}
 use mathlib.Core.Bool.{Bool, cond}

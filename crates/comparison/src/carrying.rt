@@ -1,4 +1,4 @@
-// Compare (01, "Three services"): whether every value that meets the new definition meets the old one. 01's term is carried.
+// Whether every value that meets a new definition meets an old one, by a walk over the rows of both. 01's term is carried.
 use crate::fields::find_under;
 use crate::fields::match_under;
 use crate::fields::wide_under;
@@ -8,6 +8,7 @@ use definitions::generic_at;
 use definitions::of_objects;
 use definitions::type_at;
 use rows::MOST_NAMES;
+use rows::between;
 use rows::find;
 use rows::row_at;
 ghost use mathlib.Core.Path.{_≡_};
@@ -211,9 +212,8 @@ fn carried_field(
     ensures { λ r. ⌜ FieldDecided (now (new .entry)) (now (old .entry)) (now (rows1 .entry)) (now (rows2 .entry)) a row required r ⌝ }
 {
     let name = row_at(rows2, row);
-    let from = name.first as usize + 1;
-    let to = name.end as usize - 1;
-    let found = find_under(new, rows1, a, &old[from..to], required);
+    let key = between(old, name.first, name.end);
+    let found = find_under(new, rows1, a, key, required);
     carried_found(new, old, rows1, rows2, a, found, row, required)
 }
 

@@ -1,4 +1,4 @@
-// Compare (01, "Three services"): whether every value that meets the new definition meets the old one. 01's term is carried.
+// Compare (01, "Three services"): both schemas are taken, the new one first, and their definitions compared.
 use crate::carrying::carried;
 use definitions::accept;
 use syntax::Answer;

@@ -1,4 +1,4 @@
-// Compare (01, "Three services"): whether every value that meets the new definition meets the old one. 01's term is carried.
+// The definition that a definition has under a name, by its row: for one name, or for many at once.
 use definitions::Generic;
 use definitions::generic_at;
 use rows::FEW_NAMES;

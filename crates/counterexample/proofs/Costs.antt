@@ -10,7 +10,7 @@ use Rattle.model.specs.Text.{text, same}
 use Rattle.model.specs.Value.{Value, null, boolean, number, string, array, object, Members, mnil, mcons}
 use Rattle.model.specs.Definition.{Named, JSON, Schema, Float, Integer, String, Boolean, DateTime, Def, named, array-of, map-of, object-of}
 use Rattle.model.specs.Definition.{Fields, fnil, fcons, disjoint, namedBy, isEmpty, mapped, added, joined, constructed, definitionOf, single}
-use Rattle.model.specs.Definition.{objectOf, part, fieldsOf, fieldsIn}
+use Rattle.model.specs.Definition.{objectOf, fieldsUnder, fieldsOf, fieldsIn}
 use Rattle.model.proofs.Basics.{both, same-eq, same-of, clash}
 use Rattle.grammar.specs.Utf8.{utf8}
 use Rattle.writer.specs.Spell.{spellChar, spellChars, spellString, spell}
@@ -164,25 +164,25 @@ mutual
   object-costs (string s) = omega arith
   object-costs (array vs) = omega arith
   object-costs (object ms) =
-      let r = part (text "required") ms in
-      let o = part (text "optional") ms in
+      let r = fieldsUnder (text "required") ms in
+      let o = fieldsUnder (text "optional") ms in
       let j = joined-costs r o in
       let x = part-costs ms (text "required") in
       let y = part-costs ms (text "optional") in
       (omega (arith, j .0, parts-size ms (text "required") (text "optional") refl, object-length ms), omega (arith, j .1, x .1, y .1), omega (arith, j .2, x .2, y .2))
 
   -- two parts of different names
-  parts-size : (ms : Members) (k l : List ℕ) → same k l ≡ false → sizeIfFields (part k ms) + sizeIfFields (part l ms) ≤ weightOfMembers ms
+  parts-size : (ms : Members) (k l : List ℕ) → same k l ≡ false → sizeIfFields (fieldsUnder k ms) + sizeIfFields (fieldsUnder l ms) ≤ weightOfMembers ms
   parts-size mnil k l e = omega arith
   parts-size (mcons n v ms) k l e =
       let P : Option Fields → Option Fields → Type 0 = λ r o. sizeIfFields r + sizeIfFields o ≤ weightOfMembers (mcons n v ms) in
       let x = fields-costs v .0 in
-      both (λ r. P r (part l (mcons n v ms))) (same k n)
+      both (λ r. P r (fieldsUnder l (mcons n v ms))) (same k n)
       (λ t. both (P (fieldsOf v)) (same l n) (λ u. clash (same k l) (same-of k l (same-eq k n t ∙ sym (same-eq l n u))) e)
       (λ _. omega (arith, x, part-costs ms l .0)))
-      (λ _. both (P (part k ms)) (same l n) (λ _. omega (arith, x, part-costs ms k .0)) (λ _. omega (arith, parts-size ms k l e)))
+      (λ _. both (P (fieldsUnder k ms)) (same l n) (λ _. omega (arith, x, part-costs ms k .0)) (λ _. omega (arith, parts-size ms k l e)))
 
-  part-costs : (ms : Members) (k : List ℕ) → FieldsCost (weightOfMembers ms) (depthOfMembers ms) (longestOfMembers ms) (part k ms)
+  part-costs : (ms : Members) (k : List ℕ) → FieldsCost (weightOfMembers ms) (depthOfMembers ms) (longestOfMembers ms) (fieldsUnder k ms)
   part-costs mnil k = omega arith
   part-costs (mcons n v ms) k =
       let x = fields-costs v in

@@ -10,7 +10,7 @@ use Rattle.model.specs.Text.{same}
 use Rattle.model.specs.Value.{Value, null, vnil, vcons, Members, mcons}
 use Rattle.model.specs.Definition.{Named, JSON, Schema, Float, Integer, String, Boolean, DateTime, Def, named, array-of, map-of, object-of, Fields, fnil, fcons}
 use Rattle.model.specs.Subtype.{fieldOr, ofObjects, other, under, requires, subtype}
-use Rattle.model.specs.Witness.{plain, apart, sample, kept, following, behind, rarer, avoiding, names, ownNames, fresh, others, withMember, beyondNamed, witness, witnessFields}
+use Rattle.model.specs.Witness.{plainValue, apart, sample, kept, following, behind, rarer, avoiding, names, ownNames, fresh, others, withMember, beyondNamed, witness, witnessFields}
 use Rattle.model.proofs.Basics.{both, by-test}
 use Rattle.model.proofs.Samples.{avoiding-short, fresh-under}
 use Rattle.grammar.specs.Utf8.{utf8}
@@ -81,7 +81,7 @@ Modest d v = (length (spell v) + 8 ≤ 3 * sizeOf d) × (depthOf v ≤ bracketsO
 abbrev ModestMembers : Fields → Members → Type 0
 ModestMembers fs ms = (weightOfMembers ms ≤ 3 * sizeOfFields fs) × (depthOfMembers ms ≤ bracketsOfFields fs) × (longestOfMembers ms ≤ nameOfFields fs)
 
-plain-modest : (t : Named) → Modest (named t) (plain t)
+plain-modest : (t : Named) → Modest (named t) (plainValue t)
 unfolding spellChar utf8
 plain-modest JSON = omega arith
 plain-modest Schema = omega arith

@@ -4,6 +4,7 @@ use comparison::find_under;
 use definitions::Generic;
 use definitions::generic_at;
 use definitions::of_objects;
+use rows::between;
 use rows::find;
 use rows::row_at;
 use samples::write_beyond;
@@ -29,9 +30,7 @@ fn failing_name(new: &[u8], old: &[u8], rows1: &[u32], rows2: &[u32], a: usize, 
     let row = failing_field(new, old, rows1, rows2, a, required, true);
     if row > 0 {
         let name = row_at(rows2, row);
-        let from = name.first as usize + 1;
-        let to = name.end as usize - 1;
-        if find_under(new, rows1, a, &old[from..to], true) > 0 {
+        if find_under(new, rows1, a, between(old, name.first, name.end), true) > 0 {
             return row;
         }
         return 0;
@@ -144,12 +143,11 @@ fn write_failing(
     ensures { λ r. ⌜ MemberWritten (now (new .entry)) (now (old .entry)) (now (rows1 .entry)) (now (rows2 .entry)) a row r (now (out .entry)) (now (out .exit)) ⌝ }
 {
     let name = row_at(rows2, row);
-    let from = name.first as usize + 1;
-    let to = name.end as usize - 1;
-    let found = find_under(new, rows1, a, &old[from..to], false);
+    let key = between(old, name.first, name.end);
+    let found = find_under(new, rows1, a, key, false);
     let mut n = write_name(old, name.first as usize, b'{', out);
     n += write_under(new, old, rows1, rows2, a, found, row, &mut out[n..]);
-    n += write_others(new, rows1, a, &old[from..to], &mut out[n..]);
+    n += write_others(new, rows1, a, key, &mut out[n..]);
     out[n] = b'}';
     n + 1
 }

@@ -1,5 +1,7 @@
-pub mod Faults
 pub mod OtherKinds
-pub mod Laws
+pub mod Faults
 pub mod Meaning
+pub mod Laws
+pub mod Body
+pub mod Fields
 pub mod Sharing

@@ -1,4 +1,4 @@
--- Check (01, "Three services"): the answer, both tables, and when it is 0.
+-- When a schema is accepted, and the answer where it is not (01, "Three services").
 use Prim.Native.Nat.{ℕ, _≤_}
 use mathlib.Core.Path.{_≡_}
 use mathlib.Core.Bool.{cond}

@@ -1,5 +1,6 @@
--- Definitions with their places, and the faults of a value that is none (01, "Definitions").
+-- Definitions with their places, and the faults of a value that is none (01, "Definitions"); at the end what private contracts cite.
 use Prim.Native.Nat.{ℕ}
+use mathlib.Core.Path.{_≡_}
 use mathlib.Core.Bool.{Bool, true, false, cond, _||_}
 use mathlib.Core.Option.{Option, none, some}
 use mathlib.Core.List.{List}
@@ -8,9 +9,8 @@ use Rattle.model.specs.Definition.{Named, namedBy, Def, named, array-of, map-of
 use Rattle.tokens.specs.Tokens.{Kind, Null, False, True, Whole, Fractional, Quoted}
 use Rattle.syntax.specs.Tree.{Node, scalar, array, object, Members, no-member, member}
 use Rattle.syntax.specs.Grammar.{nameOf}
-use mathlib.Core.Path.{_≡_}
-use Rattle.definitions.specs.declared.definitions.Fault.{Fault}
 use Rattle.rows.specs.Records.{Rowed, PartRow}
+use Rattle.definitions.specs.declared.definitions.Fault.{Fault}
 
 -- a definition, with its first byte; of a field, the opening quote of its name
 mutual
@@ -140,8 +140,9 @@ abbrev mutual
   fieldsAt s no-member = fine no-field
   fieldsAt s (member f e n ms) = added f (nameOf s f e) (definitionAt s n) (fieldsAt s ms)
 
--- ---- faults of definitions
+-- ---- for private contracts: the first fault, as the code has it
 
+-- code 0 where there is none
 abbrev pub faultOf : {A : Type 0} → Defined A → Fault
 faultOf (faulty c p) = record { code = c; place = p }
 faultOf (fine a) = record { code = 0; place = 0 }
@@ -150,6 +151,7 @@ abbrev pub sharedFault : Option ℕ → Fault
 sharedFault none = record { code = 0; place = 0 }
 sharedFault (some p) = record { code = 12; place = p }
 
+-- of the value at a row, as a definition
 pub record Defines (s t : List ℕ) (r : ℕ) (f : Fault) : Type 0 where
   pub tells : (w : Rowed s t r) → f ≡ faultOf (definitionAt s (w .tree))
 
@@ -157,8 +159,10 @@ pub record Defines (s t : List ℕ) (r : ℕ) (f : Fault) : Type 0 where
 pub record DefinesBody (s t : List ℕ) (r : ℕ) (f : Fault) : Type 0 where
   pub tells : (w : Rowed s t r) (p : ℕ) → f ≡ faultOf (bodyAt s p (w .tree))
 
-pub record DefinesFields (s t : List ℕ) (r : ℕ) (f : Fault) : Type 0 where
-  pub tells : (w : PartRow s t r) → f ≡ faultOf (fieldsAt s (w .members))
-
+-- of the names that two parts share
 pub record Shares (s t : List ℕ) (required optional : ℕ) (f : Fault) : Type 0 where
   pub tells : (r : PartRow s t required) (o : PartRow s t optional) → f ≡ sharedFault (sharedAt s (r .members) (o .members))
+
+-- of the definitions under the names of a part
+pub record DefinesFields (s t : List ℕ) (r : ℕ) (f : Fault) : Type 0 where
+  pub tells : (w : PartRow s t r) → f ≡ faultOf (fieldsAt s (w .members))

@@ -1,20 +1,17 @@
--- For private contracts: what the walkers of Compare are given, and what they answer.
+-- For private contracts: a definition by its row, the type or the generic type that it names, and its fields.
 use Prim.Native.Nat.{ℕ}
 use mathlib.Core.Path.{_≡_}
 use mathlib.Core.Bool.{Bool}
 use mathlib.Core.Option.{some}
 use mathlib.Core.List.{List}
 use Rattle.model.specs.Subtype.{ofObjects}
-use Rattle.definitions.specs.Definitions.{Located, named-at, array-at, map-at, object-at, LocatedFields, fine, definitionAt, fieldsAt}
-use Rattle.definitions.specs.Definitions.{bare}
+use Rattle.definitions.specs.Definitions.{Located, named-at, array-at, map-at, object-at, LocatedFields, fine, definitionAt, fieldsAt, bare}
 use Rattle.definitions.specs.Types.{typeName}
 use Rattle.rows.specs.Records.{Rowed, PartRow}
 use Rattle.definitions.specs.declared.types.TypeName.{TypeName}
 use Rattle.definitions.specs.declared.types.TypeName.the-variants.{Unknown}
 use Rattle.definitions.specs.declared.types.Generic.{Generic}
 use Rattle.definitions.specs.declared.types.Generic.the-variants.{Array, Map, Object, Other}
-
--- ---- one definition
 
 -- a definition at row r
 pub record DefinedRow (s t : List ℕ) (r : ℕ) : Type 0 where

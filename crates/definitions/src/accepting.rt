@@ -1,4 +1,4 @@
-// Check (01, "Three services").
+// A schema is accepted where its text is read with room and is a definition (01, "Three services").
 use crate::definitions::define;
 use reader::read_within;
 use syntax::Answer;

@@ -4,6 +4,7 @@ use crate::types::TypeName;
 use crate::types::generic_name;
 use crate::types::named_type;
 use chars::same_name;
+use rows::between;
 use rows::find;
 use rows::row_at;
 ghost use mathlib.Core.Path.{_≡_};
@@ -47,15 +48,12 @@ fn first_shared(text: &[u8], table: &[u32], required: usize, optional: usize) ->
     let mut row = optional + 1;
     'names: while left > 0 {
         let name = row_at(table, row);
-        let from = name.first as usize + 1;
-        let to = name.end as usize - 1;
+        let key = between(text, name.first, name.end);
         let mut unseen = others;
         let mut other = required + 1;
         while unseen > 0 {
             let next = row_at(table, other);
-            let start = next.first as usize + 1;
-            let end = next.end as usize - 1;
-            if same_name(&text[from..to], &text[start..end]) {
+            if same_name(key, between(text, next.first, next.end)) {
                 break 'names;
             }
             other = row_at(table, other + 1).next;
@@ -78,9 +76,7 @@ pub fn define(text: &[u8], table: &[u32], row: usize) -> Fault
     let value = row_at(table, row);
     let first = value.first;
     if value.kind == 6 {
-        let from = first as usize + 1;
-        let to = value.end as usize - 1;
-        return match named_type(&text[from..to]) {
+        return match named_type(between(text, first, value.end)) {
             TypeName::Unknown => Fault::at(11, first),
             _ => Fault::none(),
         };
@@ -92,9 +88,7 @@ pub fn define(text: &[u8], table: &[u32], row: usize) -> Fault
         return Fault::at(10, first);
     }
     let name = row_at(table, row + 1);
-    let start = name.first as usize + 1;
-    let end = name.end as usize - 1;
-    match generic_name(&text[start..end]) {
+    match generic_name(between(text, name.first, name.end)) {
         Generic::Array => define(text, table, row + 2),
         Generic::Map => define(text, table, row + 2),
         Generic::Object => define_body(text, table, row + 2),

@@ -1,8 +1,9 @@
-// Compare (01, "Three services"): whether every value that meets the new definition meets the old one. 01's term is carried.
+// What a definition is, by its row: the type or the generic type that it names (01, "Definitions").
 use crate::types::Generic;
 use crate::types::TypeName;
 use crate::types::generic_name;
 use crate::types::named_type;
+use rows::between;
 use rows::row_at;
 ghost use mathlib.Core.Bool.{true};
 ghost use Rattle.definitions.specs.Shapes.{DefinedRow, TypeRow, GenericRow, OfObjectsRow};
@@ -16,9 +17,7 @@ pub fn type_at(text: &[u8], table: &[u32], row: usize) -> TypeName
     if definition.kind != 6 {
         return TypeName::Unknown;
     }
-    let from = definition.first as usize + 1;
-    let to = definition.end as usize - 1;
-    named_type(&text[from..to])
+    named_type(between(text, definition.first, definition.end))
 }
 
 // The generic type of the definition at a row; of a type name Other.
@@ -30,9 +29,7 @@ pub fn generic_at(text: &[u8], table: &[u32], row: usize) -> Generic
         return Generic::Other;
     }
     let name = row_at(table, row + 1);
-    let from = name.first as usize + 1;
-    let to = name.end as usize - 1;
-    generic_name(&text[from..to])
+    generic_name(between(text, name.first, name.end))
 }
 
 // Whether only objects meet the definition at a row.

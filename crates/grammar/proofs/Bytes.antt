@@ -132,7 +132,8 @@ module _ {L : Type 0} (Item : L → Language L) (empty : L) (each : (before all 
 member-bytes : (IsItem : Language Value) → ((w : List ℕ) (v : Value) → IsItem w v → Bytes w) → (before all : Members) (w : List ℕ)
     → TrimmedMember IsItem before w all → Bytes w
 member-bytes IsItem each before all w h =
-    rw (h .spelled) (append (string-bytes (h .is-name)) (marked (h .a) (h .b) 0x3A (omega arith) (h .space-a) (h .space-b) (each (h .x) (h .value) (h .is-value))))
+    rw (h .spelled) (append (string-bytes (h .is-name)) (marked (h .a) (h .b) 0x3A (omega arith) (h .space-a) (h .space-b)
+    (each (h .x) (h .value) (h .is-value))))
 
 value-bytes : (d : ℕ) (w : List ℕ) (v : Value) → TrimmedValue d w v → Bytes w
 unfolding TrimmedValue
@@ -140,7 +141,8 @@ value-bytes zero w v h = leaf-bytes w v h
 value-bytes (suc d) w v (inl h) = leaf-bytes w v h
 value-bytes (suc d) w v (inr (inl h)) =
     bracket-bytes (TrimmedElement (TrimmedValue d)) vnil (λ before all w h. value-bytes d w (h .value) (h .is-value)) (omega arith) (omega arith) (h .2)
-value-bytes (suc d) w v (inr (inr h)) = bracket-bytes (TrimmedMember (TrimmedValue d)) mnil (member-bytes (TrimmedValue d) (value-bytes d)) (omega arith) (omega arith) (h .2)
+value-bytes (suc d) w v (inr (inr h)) =
+    bracket-bytes (TrimmedMember (TrimmedValue d)) mnil (member-bytes (TrimmedValue d) (value-bytes d)) (omega arith) (omega arith) (h .2)
 
 pub text-bytes : (d : ℕ) (s : List ℕ) (v : Value) → TrimmedText d s v → AreBytes s
 text-bytes d s v h =

@@ -7,7 +7,7 @@ use native.Mathlib.Omega.{arith}
 use lib.ListN.{length}
 use lib.Dec.{ltb, leb, eqb}
 use borrow.Author.Tests.{ltb-true, leb-true, eqb-true, lt-ltb, le-leb, lt-leb, eq-eqb, ne-eqb}
-use Rattle.chars.specs.Bytes.{byteAt, from-to, codeOf, digit, named, lowest, highest, sixBits}
+use Rattle.chars.specs.Bytes.{byteAt, from-to, codeOf, digit, escapeOf, lowest, highest, sixBits}
 use Rattle.chars.specs.Characters.{stopAt, wrongAt, hexPair, withPair, pairValue, partnerAt, restAt, unicodeAt, escapeAt, twoAt, threeAt, fourAt, charFrom, charAt}
 use Rattle.chars.specs.declared.characters.Step.{Step}
 use Rattle.chars.specs.declared.characters.Step.the-variants.{Quote, Refused}
@@ -71,7 +71,7 @@ unicodeTree = pairTree noLow restTree
 
 -- behind a backslash
 abbrev pub escapeTree : Tree
-escapeTree = next (λ b. cond (eqb b 0x75) true (not (eqb (named b) 0))) codeOf (λ b. cond (eqb b 0x75) unicodeTree (give (named b)))
+escapeTree = next (λ b. cond (eqb b 0x75) true (not (eqb (escapeOf b) 0))) codeOf (λ b. cond (eqb b 0x75) unicodeTree (give (escapeOf b)))
 
 -- a byte from lo to hi that continues a character, and what follows its six bits
 abbrev pub tail : ℕ → ℕ → ℕ → Bool
@@ -166,7 +166,7 @@ module _ (s : List ℕ) where
   unfolding escapeAt wrongAt
   escape-walk i =
       by-test (eqb (byteAt s (i + 1)) 0x75) (λ t. rw t (unicode-walk i))
-      (λ t. by-test (eqb (named (byteAt s (i + 1))) 0) (λ u. rw (t, u)) (λ u. rw (t, u, plus-2 i)))
+      (λ t. by-test (eqb (escapeOf (byteAt s (i + 1))) 0) (λ u. rw (t, u)) (λ u. rw (t, u, plus-2 i)))
 
   two-walk : (i b : ℕ) → twoAt s i b ≡ walk (twoTree b) s (i + 1)
   unfolding twoAt
@@ -225,7 +225,7 @@ zero-no-low : (x : ℕ) → noLow (16 * x + 0) ≡ true
 zero-no-low x = rw (not-in 0xDC 0xDF (16 * x + 0) (omega arith))
 
 escape-good : Good escapeTree
-unfolding named
+unfolding escapeOf
 escape-good =
     let digits = pair-good noLow restTree (λ a. zero-no-low (digit a)) rest-good in
     (refl, 0x6E, refl, λ b _. both Good (eqb b 0x75) (λ _. digits) (λ _. tt), code-least)

@@ -7,7 +7,7 @@ use mathlib.Core.List.{List, [], _∷_}
 use native.Mathlib.Omega.{arith}
 use lib.Dec.{ltb, leb, eqb}
 use borrow.Author.Tests.{ltb-true, ltb-false, leb-true, eqb-true, eqb-false, lt-ltb, le-ltb, le-leb, eq-eqb, ne-eqb}
-use Rattle.chars.specs.Bytes.{from-to, digit, named, lowest, highest, sixBits}
+use Rattle.chars.specs.Bytes.{from-to, digit, escapeOf, lowest, highest, sixBits}
 use Rattle.chars.specs.Characters.{pairValue}
 use Rattle.model.proofs.Basics.{both, clash, by-test, not-true}
 use Rattle.chars.proofs.Facts.{six-ways, lowest-least, lowest-of, highest-of, outside}
@@ -102,7 +102,8 @@ one-char b w v i n m h = give-ways (λ w. IsChar (b ∷ w)) b w v h (unescaped (
     range : IsUnescaped b
     range =
         by-test (ltb b 0x22) (λ t. inl (omega (arith, ltb-true b 0x22 t)))
-        (λ t. by-test (ltb b 0x5C) (λ u. inr (inl (omega (arith, n, ltb-false b 0x22 t, ltb-true b 0x5C u)))) (λ u. inr (inr (omega (arith, m, ltb-false b 0x5C u)))))
+        (λ t. by-test (ltb b 0x5C) (λ u. inr (inl (omega (arith, n, ltb-false b 0x22 t, ltb-true b 0x5C u))))
+        (λ u. inr (inr (omega (arith, m, ltb-false b 0x5C u)))))
 
 -- to the tree
 one-lang : (b : ℕ) → In 0x20 0x7F b → (b ≡ 0x22 → ⊥) → (b ≡ 0x5C → ⊥) → Lang charTree (b ∷ []) b
@@ -134,8 +135,8 @@ utf8-lang {v = v} (utf8-4 {b} {c} {d} {e} s t u) _ =
 -- ---- escapes
 
 -- of one letter
-is-short : (b : ℕ) → eqb (named b) 0 ≡ false → IsShort b (named b)
-unfolding named
+is-short : (b : ℕ) → eqb (escapeOf b) 0 ≡ false → IsShort b (escapeOf b)
+unfolding escapeOf
 is-short b =
     letter b 0x22 _ _ quotation-mark (letter b 0x5C _ _ reverse-solidus (letter b 0x2F _ _ solidus (letter b 0x62 _ _ backspace
     (letter b 0x66 _ _ form-feed (letter b 0x6E _ _ line-feed (letter b 0x72 _ _ carriage-return (letter b 0x74 _ _ tab (λ t. clash true refl t))))))))
@@ -143,8 +144,8 @@ is-short b =
     letter : (b k x y : ℕ) → IsShort k x → (eqb y 0 ≡ false → IsShort b y) → eqb (cond (eqb b k) x y) 0 ≡ false → IsShort b (cond (eqb b k) x y)
     letter b k x y s f = both (λ v. eqb v 0 ≡ false → IsShort b v) (eqb b k) (λ t _. rw (eqb-true b k t) s) (λ _. f)
 
-named-of : {b v : ℕ} → IsShort b v → (named b ≡ v) × (eqb v 0 ≡ false) × (eqb b 0x75 ≡ false)
-unfolding named
+named-of : {b v : ℕ} → IsShort b v → (escapeOf b ≡ v) × (eqb v 0 ≡ false) × (eqb b 0x75 ≡ false)
+unfolding escapeOf
 named-of quotation-mark = (refl, refl, refl)
 named-of reverse-solidus = (refl, refl, refl)
 named-of solidus = (refl, refl, refl)
@@ -257,7 +258,8 @@ module _ {a b c d x y p q : ℕ} (k : IsHexDigit a x) (l : IsHexDigit b y) (m : 
 
   digits-lang : (r : List ℕ) (v : ℕ) → (In 0xDC 0xDF (16 * x + y) → ⊥) → Lang (digitsTree (16 * x + y) (16 * p + q)) r v
       → Lang unicodeTree (a ∷ b ∷ c ∷ d ∷ r) v
-  digits-lang r v f h = pair-lang noLow restTree (c ∷ d ∷ r) v k l (rw (not-in 0xDC 0xDF (16 * x + y) f)) (pair-lang any (digitsTree (16 * x + y)) r v m n refl h)
+  digits-lang r v f h =
+      pair-lang noLow restTree (c ∷ d ∷ r) v k l (rw (not-in 0xDC 0xDF (16 * x + y) f)) (pair-lang any (digitsTree (16 * x + y)) r v m n refl h)
 
   single-lang : (v : ℕ) → v ≡ value x y p q → (In 0xD800 0xDFFF v → ⊥) → Lang unicodeTree (a ∷ b ∷ c ∷ d ∷ []) v
   single-lang v z r =
@@ -282,7 +284,7 @@ escape-char : (w : List ℕ) (v : ℕ) → Lang escapeTree w v → IsChar (0x5C 
 escape-char [] v h = absurd h
 escape-char (b ∷ w) v h =
     both (λ t. Lang t w v → IsChar (0x5C ∷ b ∷ w) v) (eqb b 0x75) (λ t g. rw (eqb-true b 0x75 t) (unicode-char w v g))
-    (λ t g. let n : not (eqb (named b) 0) ≡ true = rw t at (h .0) in give-ways (λ w. IsChar (0x5C ∷ b ∷ w)) _ w v g (short (is-short b (not-true _ n)))) (h .1)
+    (λ t g. let n : not (eqb (escapeOf b) 0) ≡ true = rw t at (h .0) in give-ways (λ w. IsChar (0x5C ∷ b ∷ w)) _ w v g (short (is-short b (not-true _ n)))) (h .1)
 
 -- ---- characters
 

@@ -72,7 +72,9 @@ pub letter : IsChar (text "a") 0x61
 letter = unescaped (utf8-1 {b = 0x61} (omega arith, omega arith)) (inr (inr (omega arith, omega arith)))
 
 pub euro : IsChar (0xE2 ∷ 0x82 ∷ 0xAC ∷ []) 0x20AC
-euro = unescaped (utf8-3 {d = 0xAC} (e1-ec {b = 0xE2} {c = 0x82} (omega arith, omega arith) (omega arith, omega arith)) (omega arith, omega arith)) (inr (inr (omega arith, omega arith)))
+euro =
+    unescaped (utf8-3 {d = 0xAC} (e1-ec {b = 0xE2} {c = 0x82} (omega arith, omega arith) (omega arith, omega arith)) (omega arith, omega arith))
+    (inr (inr (omega arith, omega arith)))
 
 pub backslash : IsChar (text "\\\\") 0x5C
 backslash = short reverse-solidus
@@ -90,11 +92,13 @@ clef =
 -- ` [ ] `, with one bracket open; the space at the ends is the array's or the text's
 pub empty-array : IsJsonText 1 (text " [ ] ") (array vnil)
 unfolding IsValue
-empty-array = is-text (text " ") (text "[ ]") (text " ") refl (inr (inl (is-array (empty (structural [] (text " ") refl refl) (structural [] [] refl refl))))) refl
+empty-array =
+    is-text (text " ") (text "[ ]") (text " ") refl (inr (inl (is-array (empty (structural [] (text " ") refl refl) (structural [] [] refl refl))))) refl
 
 pub spaced-array : IsJsonText 1 (text " [ ] ") (array vnil)
 unfolding IsValue
-spaced-array = is-text [] (text " [ ] ") [] refl (inr (inl (is-array (empty (structural (text " ") (text " ") refl refl) (structural [] (text " ") refl refl))))) refl
+spaced-array =
+    is-text [] (text " [ ] ") [] refl (inr (inl (is-array (empty (structural (text " ") (text " ") refl refl) (structural [] (text " ") refl refl))))) refl
 
 -- `[null , true]`: a comma stands between elements
 pub two-elements : IsJsonText 1 (text "[null , true]") (array (vcons null (vcons (boolean true) vnil)))
@@ -102,7 +106,8 @@ unfolding IsValue
 two-elements =
     is-text [] (text "[null , true]") [] refl
     (inr (inl (is-array (series (structural [] [] refl refl)
-    (more {w = text "null"} {a = null} refl (structural (text " ") (text " ") refl refl) (one {w = text "true"} {a = boolean true} refl)) (structural [] [] refl refl))))) refl
+    (more {w = text "null"} {a = null} refl (structural (text " ") (text " ") refl refl)
+    (one {w = text "true"} {a = boolean true} refl)) (structural [] [] refl refl))))) refl
 
 -- `{"":null}`
 pub one-member : IsJsonText 1 (text "{\"\":null}") (object (mcons [] null mnil))
@@ -110,7 +115,8 @@ unfolding IsValue
 one-member =
     is-text [] (text "{\"\":null}") [] refl
     (inr (inr (is-object (series (structural [] [] refl refl)
-    (one (is-member {x = text "null"} {v = null} (record { body = []; spelled = refl; chars = no-char }) (structural [] [] refl refl) refl)) (structural [] [] refl refl))
+    (one (is-member {x = text "null"} {v = null} (record { body = []; spelled = refl; chars = no-char }) (structural [] [] refl refl) refl))
+    (structural [] [] refl refl))
     (refl, tt)))) refl
 
 -- a name twice

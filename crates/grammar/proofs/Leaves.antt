@@ -47,7 +47,8 @@ word-refusals k (c ∷ w) s i t l =
     (λ z u. both (Refusals (IsWord (c ∷ w)) s i) (eqb (byteAt s i) c)
     (λ v. let q = eqb-true (byteAt s i) c v in
     let m = in-text s i (omega (arith, ltb-true 0 c z)) in
-    refusals-in (IsWord w) (IsWord (c ∷ w)) (between-one s m q) (λ u. u) (λ x _ h. ap (_∷_ c) h) (wordAt k w s (i + 1)) (word-refusals k w s (i + 1) u (omega arith)))
+    refusals-in (IsWord w) (IsWord (c ∷ w)) (between-one s m q) (λ u. u) (λ x _ h. ap (_∷_ c) h) (wordAt k w s (i + 1))
+    (word-refusals k w s (i + 1) u (omega arith)))
     (λ _. unexpected-refusals Kind (IsWord (c ∷ w)) s i i (begun-none (IsWord (c ∷ w)) s i (c ∷ w) tt l refl)))
 
 module _ (s : List ℕ) (i : ℕ) (l : i ≤ length s) where
@@ -132,7 +133,8 @@ NoBracket Other = Unit
 
 module _ (s : List ℕ) (i : ℕ) where
   -- by the kind that its first byte begins
-  leaf-by : (e : ℕ) (v : Value) (f : First) (k : Kind) → NoBracket f → firstOf (byteAt s i) ≡ f → scalarBy f s i ≡ parsed k e → scalarOf s k i e ≡ v → LeafRead s i e v
+  leaf-by : (e : ℕ) (v : Value) (f : First) (k : Kind) → NoBracket f → firstOf (byteAt s i) ≡ f → scalarBy f s i ≡ parsed k e → scalarOf s k i e ≡ v
+      → LeafRead s i e v
   leaf-by e v f k n q r m = record {
     node = scalar k i e;
     reads = rw (q, r);
@@ -142,7 +144,8 @@ module _ (s : List ℕ) (i : ℕ) where
   }
 
   -- null, false and true
-  word-leaf : (c : ℕ) (w : List ℕ) (v : Value) (f : First) (k : Kind) → NoBracket f → firstOf c ≡ f → scalarBy f s i ≡ wordAt k (c ∷ w) s i → ((e : ℕ) → scalarOf s k i e ≡ v)
+  word-leaf : (c : ℕ) (w : List ℕ) (v : Value) (f : First) (k : Kind) → NoBracket f → firstOf c ≡ f → scalarBy f s i ≡ wordAt k (c ∷ w) s i
+      → ((e : ℕ) → scalarOf s k i e ≡ v)
       → (x : List ℕ) → x ≡ c ∷ w → At s i x → LeafRead s i (i + length x) v
   word-leaf c w v f k n q r m x e a =
       let b = subst (At s i) e a in leaf-by (i + length x) v f k n (rw (b .0) q) (r ∙ rw e (word-reads k (c ∷ w) s i b)) (m (i + length x))

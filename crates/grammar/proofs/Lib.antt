@@ -1,5 +1,6 @@
--- From the leaves up. The written grammar has the texts of its trimmed form (Trimmed to TrimmedTexts); what is read or refused is sound, and what is spelled is read (Pieces to Texts);
--- nothing behind a place counts (Local, LocalTexts). `Theorems` has what is proved.
+-- From the leaves up. The written grammar has the texts of its trimmed form (Trimmed to TrimmedTexts);
+-- what is read or refused is sound, and what is spelled is read (Pieces to Texts); nothing behind a place counts (Local, LocalTexts).
+-- `Theorems` has what is proved.
 pub mod DerivedExamples
 pub mod Trimmed
 pub mod Trimming

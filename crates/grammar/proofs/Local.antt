@@ -58,7 +58,8 @@ local-from : {A : Type 0} {m i j : ℕ} (o u : Parse A) → i ≤ j → Local m 
 local-from o u l f h = let x = f h in (omega arith, x .1)
 
 -- what is read behind another
-pub then-local : {A B : Type 0} {m i : ℕ} (o u : Parse A) (f k : A → ℕ → Parse B) → Local m i o u → ((a : A) (e : ℕ) → Local m e (f a e) (k a e)) → Local m i (then o f) (then u k)
+pub then-local : {A B : Type 0} {m i : ℕ} (o u : Parse A) (f k : A → ℕ → Parse B) → Local m i o u → ((a : A) (e : ℕ) → Local m e (f a e) (k a e))
+    → Local m i (then o f) (then u k)
 then-local (refused c p) u f k h r l = let x = h l in (x .0, ap (λ (y : Parse _). then y k) (x .1))
 then-local (parsed a e) u f k h r l =
     let y = r a e l in
@@ -73,9 +74,11 @@ module _ {s t : List ℕ} {m : ℕ} (g : Agree s t m) where
       (λ _ h. absurd (omega (arith, g .in-s)))
 
   -- by a test of the byte at i
-  test-local : {A : Type 0} (i : ℕ) (p : ℕ → Bool) (x y v w : Parse A) → Local m i x v → Local m i y w → Local m i (cond (p (byteAt s i)) x y) (cond (p (byteAt t i)) v w)
+  test-local : {A : Type 0} (i : ℕ) (p : ℕ → Bool) (x y v w : Parse A) → Local m i x v → Local m i y w
+      → Local m i (cond (p (byteAt s i)) x y) (cond (p (byteAt t i)) v w)
   test-local {A} i p x y v w f k =
-      both (λ (o : Parse A). place o < m → (i < m) × (cond (p (byteAt t i)) v w ≡ o)) (p (byteAt s i)) (λ u h. let z = f h in (z .0, rw (g .bytes i (z .0), u) (z .1)))
+      both (λ (o : Parse A). place o < m → (i < m) × (cond (p (byteAt t i)) v w ≡ o)) (p (byteAt s i))
+      (λ u h. let z = f h in (z .0, rw (g .bytes i (z .0), u) (z .1)))
       (λ u h. let z = k h in (z .0, rw (g .bytes i (z .0), u) (z .1)))
 
   -- parts that end by m
@@ -150,7 +153,9 @@ module _ {s t : List ℕ} {m : ℕ} (g : Agree s t m) where
 
   number-local : (i : ℕ) → Local m i (numberAt s i) (numberAt t i)
   unfolding numberAt
-  number-local i = test-local i (λ b. eqb b 0x2D) _ _ _ _ (local-from (unsignedAt s (i + 1)) (unsignedAt t (i + 1)) (omega arith) (unsigned-local (i + 1))) (unsigned-local i)
+  number-local i =
+      test-local i (λ b. eqb b 0x2D) _ _ _ _ (local-from (unsignedAt s (i + 1)) (unsignedAt t (i + 1)) (omega arith) (unsigned-local (i + 1)))
+      (unsigned-local i)
 
   -- ---- words
 
@@ -158,7 +163,8 @@ module _ {s t : List ℕ} {m : ℕ} (g : Agree s t m) where
   unfolding wordAt
   word-local k [] i = λ b. (b, refl)
   word-local k (c ∷ w) i =
-      test-local i (λ b. eqb b c) _ _ _ _ (local-from (wordAt k w s (i + 1)) (wordAt k w t (i + 1)) (omega arith) (word-local k w (i + 1))) (unexpected-local Kind i)
+      test-local i (λ b. eqb b c) _ _ _ _ (local-from (wordAt k w s (i + 1)) (wordAt k w t (i + 1)) (omega arith) (word-local k w (i + 1)))
+      (unexpected-local Kind i)
 
   -- ---- strings
 
@@ -216,7 +222,8 @@ module _ {s t : List ℕ} {m : ℕ} (g : Agree s t m) where
       same : (o : Step) → charAt s i ≡ o → stepPlace o < m → charAt t i ≡ o
       same o q p = char-steady i (string-reach i l h) (rw q p) ∙ q
 
-      go : ((j : ℕ) → j ≤ length s → length s < j + k → scanPlace (stringAt s j) < m → stringAt t j ≡ stringAt s j) → (o : Step) → charAt s i ≡ o → stringAt t i ≡ stringAt s i
+      go : ((j : ℕ) → j ≤ length s → length s < j + k → scanPlace (stringAt s j) < m → stringAt t j ≡ stringAt s j) → (o : Step) → charAt s i ≡ o
+          → stringAt t i ≡ stringAt s i
       go rec (Char v j) q =
           let b = char-next s i v j q in
           let h₂ : scanPlace (stringAt s j) < m = rw (string-char s i v j q) at h in

@@ -34,13 +34,15 @@ use Rattle.grammar.proofs.Local.{scalar-local}
 module _ {s t : List ℕ} {m : ℕ} (g : Agree s t m) {L : Type 0} {rows : L → ℕ} {item item₂ : L → ℕ → Parse L} (r : Reads s rows item) (r₂ : Reads t rows item₂)
     (Known : L → Type 0) (keep : (before all : L) (i e : ℕ) → Known before → item before i ≡ parsed all e → e < m → Known all)
     (items : (before : L) (i : ℕ) → i ≤ length s → LocalIf (Known before) m i (item before i) (item₂ before i)) (closing : ℕ) (pos : 0 < closing) where
-  items-local : (f : ℕ) (before : L) (i : ℕ) → i ≤ length s → length s < i + f → LocalIf (Known before) m i (itemsAt closing item s before i) (itemsAt closing item₂ t before i)
+  items-local : (f : ℕ) (before : L) (i : ℕ) → i ≤ length s → length s < i + f
+      → LocalIf (Known before) m i (itemsAt closing item s before i) (itemsAt closing item₂ t before i)
   items-local zero before i l h = absurd (omega arith)
   items-local (suc f) before i l h = go (λ all n. items-local f all n) (item before i) refl
     where
       go : ((all : L) (n : ℕ) → n ≤ length s → length s < n + f → LocalIf (Known all) m n (itemsAt closing item s all n) (itemsAt closing item₂ t all n))
           → (o : Parse L) → item before i ≡ o → LocalIf (Known before) m i (itemsAt closing item s before i) (itemsAt closing item₂ t before i)
-      go rec (refused c p) q = rw (items-refused r closing q) (λ b. let x = items before i l (rw q b) in (x .0, λ known. items-refused r₂ closing (x .1 known ∙ q)))
+      go rec (refused c p) q =
+          rw (items-refused r closing q) (λ b. let x = items before i l (rw q b) in (x .0, λ known. items-refused r₂ closing (x .1 known ∙ q)))
       go rec (parsed all e) q =
           let k : ℕ = skip s e in
           let w = item-takes r q in
@@ -62,7 +64,8 @@ module _ {s t : List ℕ} {m : ℕ} (g : Agree s t m) {L : Type 0} {rows : L →
           (λ u. by-test (eqb (byteAt s k) closing)
           (λ v. let z : byteAt s k ≡ closing = eqb-true _ _ v in
           let d : closing ≡ 0x2C → ⊥ = λ c. eqb-false _ _ u (z ∙ c) in
-          rw (items-close r closing q refl d z) (λ b. (omega arith, λ known. let x = same (omega arith) known in items-close r₂ closing (x .0) (x .1) d (x .2 ∙ z))))
+          rw (items-close r closing q refl d z)
+          (λ b. (omega arith, λ known. let x = same (omega arith) known in items-close r₂ closing (x .0) (x .1) d (x .2 ∙ z))))
           (λ v. rw (items-bad r closing q refl (eqb-false _ _ u) (eqb-false _ _ v))
           (λ b. let y = unexpected-local g L k b in (
             omega arith,
@@ -137,7 +140,8 @@ module _ {s t : List ℕ} {m : ℕ} (g : Agree s t m) where
           (λ h. let y = unexpected-local g Members j h in (
             omega arith,
             λ known. let x = other known (omega arith) in
-                member-bare v₂ t before i (name-new t before i (x .0) (x .1) (x .2)) (sym (runs g isSpace e (y .0))) (λ c. z (sym (g .bytes j (y .0)) ∙ c)) ∙ y .1,
+                member-bare v₂ t before i (name-new t before i (x .0) (x .1) (x .2)) (sym (runs g isSpace e (y .0))) (λ c. z (sym (g .bytes j (y .0)) ∙ c))
+                ∙ y .1,
           )))
 
       member-local : MemberLocal
@@ -146,19 +150,26 @@ module _ {s t : List ℕ} {m : ℕ} (g : Agree s t m) where
           (λ u. let o : byteAt s i ≡ 0x22 = eqb-true _ _ u in
           let n = in-text s i (omega arith) in quote o (omega arith) (stringAt s (i + 1)) refl (string-sound s (i + 1) (omega arith)))
           (λ u. let n = eqb-false (byteAt s i) 0x22 u in
-          rw (no-quote v s before i n) (λ h. let y = unexpected-local g Members i h in (y .0, λ _. no-quote v₂ t before i (λ c. n (sym (g .bytes i (y .0)) ∙ c)) ∙ y .1)))
+          rw (no-quote v s before i n)
+          (λ h. let y = unexpected-local g Members i h in
+          (y .0, λ _. no-quote v₂ t before i (λ c. n (sym (g .bytes i (y .0)) ∙ c)) ∙ y .1)))
         where
           quote : byteAt s i ≡ 0x22 → i + 1 ≤ length s → (x : Scan) → stringAt s (i + 1) ≡ x → Scanned s (i + 1) x → MemberLocal
           quote o il (Stopped c p) q b =
               rw (name-stopped s before i o q)
-              (λ h. let im : i < m = omega (arith, b .0 .ahead) in (im, λ _. rw (name-stopped t before i (g .bytes i im ∙ o) (string-steady g (i + 1) il (rw q h) ∙ q))))
+              (λ h. let im : i < m = omega (arith, b .0 .ahead) in
+              (im, λ _. rw (name-stopped t before i (g .bytes i im ∙ o) (string-steady g (i + 1) il (rw q h) ∙ q))))
           quote o il (Ends e) q b =
               let w = string-close s (i + 1) e q in
               let other : e ≤ m → (byteAt t i ≡ 0x22) × (stringAt t (i + 1) ≡ Ends e) × (nameOf t i e ≡ nameOf s i e) =
               λ h. (g .bytes i (omega arith) ∙ o, string-steady g (i + 1) il (rw q (omega arith)) ∙ q, name-same i e (omega arith) h) in
               by-test (repeated s before (nameOf s i e))
               (λ u. rw (name-again s before i o q u)
-              (λ h. (omega arith, λ known. let x = other (omega arith) in rw (name-again t before i (x .0) (x .1) (rw (x .2, repeated-same before (nameOf s i e) known) u)))))
+              (λ h. (
+                omega arith,
+                λ known. let x = other (omega arith) in
+                    rw (name-again t before i (x .0) (x .1) (rw (x .2, repeated-same before (nameOf s i e) known) u)),
+              )))
               (λ u. colon o e q u (λ known h. let x = other h in (x .0, x .1, rw (x .2, repeated-same before (nameOf s i e) known) u)))
 
     member-keep : (before all : Members) (i e : ℕ) → Known m before → memberAt v s before i ≡ parsed all e → e < m → Known m all
@@ -193,7 +204,8 @@ module _ {s t : List ℕ} {m : ℕ} (g : Agree s t m) where
   value-local : (d i : ℕ) → i ≤ length s → Local m i (valueAt d s i) (valueAt d t i)
   unfolding valueAt
   value-local zero i l h =
-      let x = by-first i (λ j. refused 7 j) (λ j. refused 7 j) (λ j. refused 7 j) (λ j. refused 7 j) (firstOf (byteAt s i)) (λ _ b. (b, refl)) (λ _ b. (b, refl)) h in
+      let x = by-first i (λ j. refused 7 j) (λ j. refused 7 j) (λ j. refused 7 j) (λ j. refused 7 j) (firstOf (byteAt s i)) (λ _ b. (b, refl))
+      (λ _ b. (b, refl)) h in
       (x .0, rw (g .bytes i (x .0)) (x .1))
   value-local (suc d) i l h =
       let v = valueAt d s in
@@ -201,11 +213,13 @@ module _ {s t : List ℕ} {m : ℕ} (g : Agree s t m) where
       let x = by-first i (arrayAt v s) (objectAt v s) (arrayAt v₂ t) (objectAt v₂ t) (firstOf (byteAt s i))
       (λ q. let n = in-text s i (omega (arith, first-array (byteAt s i) q)) in
       then-local (listAt 0x5D (elementAt v) s none i) (listAt 0x5D (elementAt v₂) t none i) _ _
-      (list-local g (element-reads s d) (element-reads t d) (λ _. Unit {0}) (λ _ _ _ _ _ _ _. tt) (element-local g v v₂ (value-local d)) 0x5D (omega arith) none i n tt)
+      (list-local g (element-reads s d) (element-reads t d) (λ _. Unit {0}) (λ _ _ _ _ _ _ _. tt) (element-local g v v₂ (value-local d)) 0x5D
+      (omega arith) none i n tt)
       (λ _ e b. (b, refl)))
       (λ q. let n = in-text s i (omega (arith, first-object (byteAt s i) q)) in
       then-local (listAt 0x7D (memberAt v s) s no-member i) (listAt 0x7D (memberAt v₂ t) t no-member i) _ _
-      (list-local g (member-reads s d) (member-reads t d) (Known m) (member-keep g v v₂ (value-local d)) (member-local g v v₂ (value-local d)) 0x7D (omega arith)
+      (list-local g (member-reads s d) (member-reads t d) (Known m) (member-keep g v v₂ (value-local d)) (member-local g v v₂ (value-local d)) 0x7D
+      (omega arith)
       no-member i n tt) (λ _ e b. (b, refl))) h in
       (x .0, rw (g .bytes i (x .0)) (x .1))
 

@@ -38,7 +38,8 @@ values-add s none n = refl
 values-add s (more m ns) n = ap (vcons (valueOf s m)) (values-add s ns n)
 
 -- a member
-members-add : (s : List ℕ) (ms : NodeMembers) (f e : ℕ) (n : Node) → membersOf s (addNodeMember ms f e n) ≡ addMember (membersOf s ms) (nameOf s f e) (valueOf s n)
+members-add : (s : List ℕ) (ms : NodeMembers) (f e : ℕ) (n : Node)
+    → membersOf s (addNodeMember ms f e n) ≡ addMember (membersOf s ms) (nameOf s f e) (valueOf s n)
 members-add s no-member f e n = refl
 members-add s (member g h m ms) f e n = ap (mcons (nameOf s g h) (valueOf s m)) (members-add s ms f e n)
 
@@ -102,7 +103,9 @@ module _ (s : List ℕ) (IsItem : Language Value) (is-null : IsItem (text "null"
   -- nothing yet
   bare-begun : Begun X s i i
   bare-begun =
-      let q = long-string enough in begun-none X s i _ _ il (with-null _ [] (replicate enough 0x61) (q .0) (long-differs (membersOf s before) (replicate enough 0x61) (q .1)) refl)
+      let name : List ℕ = replicate enough 0x61 in
+      let q = long-string enough in
+      begun-none X s i _ _ il (with-null _ [] name (q .0) (long-differs (membersOf s before) name (q .1)) refl)
 
   -- within a name
   broken-begun : byteAt s i ≡ 0x22 → {p : ℕ} → Begun IsChars s (i + 1) p → Begun X s i p
@@ -140,10 +143,13 @@ module _ (s : List ℕ) (IsItem : Language Value) (is-null : IsItem (text "null"
       space₂ = space-spelled s (j + 1) (omega (arith, in-j))
 
       to-value : Between s i k (part s i e ++ (part s e j ++ (0x3A ∷ part s (j + 1) k)))
-      to-value = between-join (between s (name .ahead)) (between-join (between s (space .ahead)) (between-join (between-one s in-j z) (between s (space₂ .ahead))))
+      to-value =
+          between-join (between s (name .ahead)) (between-join (between s (space .ahead)) (between-join (between-one s in-j z) (between s (space₂ .ahead))))
 
-      with-value : (w : List ℕ) (u : Value) → IsItem w u → X ((part s i e ++ (part s e j ++ (0x3A ∷ part s (j + 1) k))) ++ w) (addMember (membersOf s before) (nameOf s i e) u)
-      with-value w u h = simp append-assoc (member-of (part s i e) (part s e j) (part s (j + 1) k) w (nameOf s i e) u (name .spells) fresh (space .spells) (space₂ .spells) h)
+      with-value : (w : List ℕ) (u : Value) → IsItem w u
+          → X ((part s i e ++ (part s e j ++ (0x3A ∷ part s (j + 1) k))) ++ w) (addMember (membersOf s before) (nameOf s i e) u)
+      with-value w u h =
+          simp append-assoc (member-of (part s i e) (part s e j) (part s (j + 1) k) w (nameOf s i e) u (name .spells) fresh (space .spells) (space₂ .spells) h)
 
       member-value-sound : (r : Parse Node) → Sound IsItem (valueOf s) s k r → Sound X (membersOf s) s i (then r (λ m p. parsed (addNodeMember before i e m) p))
       member-value-sound r g =
@@ -167,7 +173,8 @@ module _ (s : List ℕ) (IsItem : Language Value) (is-null : IsItem (text "null"
           (λ u. let z : byteAt s (skip s e) ≡ 0x3A = eqb-true _ _ u in
           let k : ℕ = skip s (skip s e + 1) in
           rw (member-value v s before i (name-new s before i o q t) refl z) (member-value-sound o e q t z (v k) (sound k (space₂ o e q t z .within))))
-          (λ u. rw (member-bare v s before i (name-new s before i o q t) refl (eqb-false _ _ u)) (unexpected-sound X (membersOf s) s i (skip s e) (no-colon o e q t))))
+          (λ u. rw (member-bare v s before i (name-new s before i o q t) refl (eqb-false _ _ u))
+          (unexpected-sound X (membersOf s) s i (skip s e) (no-colon o e q t))))
 
 -- ---- what is spelled so
 
@@ -181,7 +188,8 @@ module _ (s : List ℕ) (IsItem : Language Value) (v : ℕ → Parse Node)
       let a₀ : At s i (m .quoted ++ y) = subst (At s i) (m .spelled) a in
       let r = string-reads s (m .is-name) i (at-first s i (m .quoted) y a₀) in
       let fresh : repeated s before (nameOf s i e) ≡ false = repeated-has s before (nameOf s i e) ∙ rw (r .2) (m .differs) in
-      let p = separated s e 0x3A (m .a) (m .b) (m .x) (m .space-a) refl (m .space-b) (λ i t. first i (m .x) (m .value) (m .is-value) t .0) (at-second s i (m .quoted) y a₀) in
+      let p = separated s e 0x3A (m .a) (m .b) (m .x) (m .space-a) refl (m .space-b) (λ i t. first i (m .x) (m .value) (m .is-value) t .0)
+      (at-second s i (m .quoted) y a₀) in
       let j = e + length (m .a) + 1 + length (m .b) in
       let z : j + length (m .x) ≡ i + length w =
       omega (arith, ap length (m .spelled), length-append (m .quoted) y, length-append (m .a) (0x3A ∷ m .b ++ m .x), length-append (m .b) (m .x)) in

@@ -4,13 +4,12 @@ use mathlib.Core.Path.{_≡_, refl, sym, subst}
 use mathlib.Core.Logic.{⊎-elim}
 use mathlib.Core.Bool.{Bool, true, _&&_, _||_}
 use mathlib.Core.List.{List, [], _∷_}
-use native.Mathlib.Omega.{arith}
-use lib.Dec.{eqb, leb}
-use borrow.Author.Tests.{eqb-true, leb-true, le-leb}
-use Rattle.model.specs.Text.{text, all, same}
-use Rattle.model.specs.Value.{isDigit, isDigits, isInt, isFraction, isPower, isExponent, IsNumber}
-use Rattle.model.proofs.Basics.{and-ways, or-true, same-eq}
-use Rattle.tokens.proofs.Facts.{all-append, all-imp}
+use lib.Dec.{eqb}
+use borrow.Author.Tests.{eqb-true}
+use Rattle.model.specs.Text.{all}
+use Rattle.model.specs.Value.{isDigit, isDigits, isFraction, isPower, isExponent, IsNumber}
+use Rattle.model.proofs.Basics.{and-ways, or-true, all-append, all-imp}
+use Rattle.model.proofs.Integers.{int-all}
 
 module _ (p : ℕ → Bool) (digit : (c : ℕ) → isDigit c ≡ true → p c ≡ true)
     (plus : p 0x2B ≡ true) (minus : p 0x2D ≡ true) (point : p 0x2E ≡ true) (upper : p 0x45 ≡ true) (lower : p 0x65 ≡ true) where
@@ -27,14 +26,6 @@ module _ (p : ℕ → Bool) (digit : (c : ℕ) → isDigit c ≡ true → p c �
   some-digits : (w : List ℕ) → isDigits w ≡ true → all p w ≡ true
   some-digits [] h = refl
   some-digits (c ∷ w) h = digits (c ∷ w) h
-
-  int : (w : List ℕ) → isInt w ≡ true → all p w ≡ true
-  int [] h = refl
-  int (c ∷ w) h =
-      ⊎-elim (λ t. subst (λ (x : List ℕ). all p x ≡ true) (sym (same-eq (c ∷ w) (text "0") t)) (one 0x30 (digit 0x30 refl)))
-      (λ t. and-ways (leb 0x31 c && leb c 0x39) (all isDigit w) t
-      (λ u v. and-ways (leb 0x31 c) (leb c 0x39) u (λ l m. let l = leb-true 0x31 c l in rw (digit c (rw (le-leb 0x30 c (omega arith), m))) (digits w v))))
-      (or-true (same (c ∷ w) (text "0")) (leb 0x31 c && leb c 0x39 && all isDigit w) h)
 
   fraction : (w : List ℕ) → isFraction w ≡ true → all p w ≡ true
   fraction [] h = refl
@@ -60,7 +51,7 @@ module _ (p : ℕ → Bool) (digit : (c : ℕ) → isDigit c ≡ true → p c �
         all-append p (h .int) _,
         all-append p (h .fraction) _,
         sign,
-        int (h .int) (h .is-int),
+        int-all p digit (h .int) (h .is-int),
         fraction (h .fraction) (h .is-fraction),
         exponent (h .exponent) (h .is-exponent),
       )

@@ -36,7 +36,8 @@ isSign b = eqb b 0x2B || eqb b 0x2D
 -- one of two bytes stands at i, so the text goes on there
 either-in : (s : List ℕ) (i x y : ℕ) → 0 < x → 0 < y → eqb (byteAt s i) x || eqb (byteAt s i) y ≡ true → i < length s
 either-in s i x y hx hy t =
-    in-text s i (⊎-elim (λ u. omega (arith, eqb-true (byteAt s i) x u)) (λ u. omega (arith, eqb-true (byteAt s i) y u)) (or-ways (eqb (byteAt s i) x) (eqb (byteAt s i) y) t))
+    in-text s i (⊎-elim (λ u. omega (arith, eqb-true (byteAt s i) x u)) (λ u. omega (arith, eqb-true (byteAt s i) y u))
+    (or-ways (eqb (byteAt s i) x) (eqb (byteAt s i) y) t))
 
 -- a sign or none, and a zero behind it
 sign-zero : (s : List ℕ) (j : ℕ) → j ≤ length s → (signEnd s j ≤ length s) × (isPower (part s j (signEnd s j) ++ text "0") ≡ true)
@@ -57,7 +58,8 @@ zero-begun {u = u} r l h = record { ahead = r .order; within = l; rest = text "0
 -- behind a minus or none, and an int
 module _ (s : List ℕ) (i a b : ℕ) {m n : List ℕ} (from-i : Between s i a m) (minus : Minus m) (from-a : Between s a b n) (int : isInt n ≡ true) where
   -- broken off behind u, where u and a zero make a fraction and an exponent
-  tail-begun : {p : ℕ} {u : List ℕ} → Between s b p u → p ≤ length s → (f x : List ℕ) → u ++ text "0" ≡ f ++ x → isFraction f ≡ true → isExponent x ≡ true → Begun IsLeaf s i p
+  tail-begun : {p : ℕ} {u : List ℕ} → Between s b p u → p ≤ length s → (f x : List ℕ) → u ++ text "0" ≡ f ++ x → isFraction f ≡ true → isExponent x ≡ true
+      → Begun IsLeaf s i p
   tail-begun from-b l f x q hf hx = zero-begun (between-join from-i (between-join from-a from-b)) l (number-of m n f x (simp (append-assoc, q)) minus int hf hx)
 
   power-refusals : (c : ℕ) {f : List ℕ} → Between s b c f → isFraction f ≡ true → isE (byteAt s c) ≡ true → Refusals IsLeaf s i (powerAt s c)
@@ -160,13 +162,15 @@ module _ (s : List ℕ) where
       ⊎-elim (λ e. inl (int-first (h .int) (h .fraction ++ h .exponent) i (h .is-int) (rw e at b))) (λ e. inr ((rw e at b) .0)) (h .is-minus)
 
   -- of an exponent, or what follows it
-  exponent-first : (x : List ℕ) → isExponent x ≡ true → (j : ℕ) → At s j x → Follow (byteAt s (j + length x)) → (isDigit (byteAt s j) ≡ false) × (eqb (byteAt s j) 0x2E ≡ false)
+  exponent-first : (x : List ℕ) → isExponent x ≡ true → (j : ℕ) → At s j x → Follow (byteAt s (j + length x))
+      → (isDigit (byteAt s j) ≡ false) × (eqb (byteAt s j) 0x2E ≡ false)
   exponent-first [] h j a f = let z : j + 0 ≡ j = omega arith in let n = follow-ways (byteAt s j) (rw z at f) in (n .0, n .1)
   exponent-first (c ∷ w) h j a f =
       and-ways (isE c) (isPower w) h
       (λ t _. rw (a .0) (⊎-elim (λ u. rw (eqb-true c 0x45 u) (refl, refl)) (λ u. rw (eqb-true c 0x65 u) (refl, refl)) (or-ways (eqb c 0x45) (eqb c 0x65) t)))
 
-  fraction-first : (f x : List ℕ) → isFraction f ≡ true → isExponent x ≡ true → (j : ℕ) → At s j (f ++ x) → Follow (byteAt s (j + length (f ++ x))) → isDigit (byteAt s j) ≡ false
+  fraction-first : (f x : List ℕ) → isFraction f ≡ true → isExponent x ≡ true → (j : ℕ) → At s j (f ++ x) → Follow (byteAt s (j + length (f ++ x)))
+      → isDigit (byteAt s j) ≡ false
   fraction-first [] x hf hx j a n = exponent-first x hx j a n .0
   fraction-first (c ∷ w) x hf hx j a n = and-ways (eqb c 0x2E) (isDigits w) hf (λ t _. rw (a .0, eqb-true c 0x2E t))
 
@@ -194,7 +198,8 @@ module _ (s : List ℕ) where
   unfolding powerAt
   power-digits j p w z h a n = let d = digits-read w p h a n in rw (z, d .1, d .0)
 
-  power-reads : (j : ℕ) (w : List ℕ) → isPower w ≡ true → At s (j + 1) w → isDigit (byteAt s (j + 1 + length w)) ≡ false → powerAt s j ≡ parsed Fractional (j + 1 + length w)
+  power-reads : (j : ℕ) (w : List ℕ) → isPower w ≡ true → At s (j + 1) w → isDigit (byteAt s (j + 1 + length w)) ≡ false
+      → powerAt s j ≡ parsed Fractional (j + 1 + length w)
   power-reads j [] h a n = clash false h refl
   power-reads j (c ∷ w) h a n =
       ⊎-elim
@@ -204,7 +209,8 @@ module _ (s : List ℕ) where
       power-digits j (j + 1 + 1) w (a-sign (j + 1) (rw (a .0) u)) v (a .2) (rw z n) ∙ ap (parsed Fractional) z))
       (or-ways (isDigits (c ∷ w)) ((isSign c) && isDigits w) h)
 
-  exponent-reads : (x : List ℕ) → isExponent x ≡ true → (j : ℕ) (k : Kind) → Numeric k → At s j x → Follow (byteAt s (j + length x)) → ReadsTo (exponentAt s j k) (j + length x)
+  exponent-reads : (x : List ℕ) → isExponent x ≡ true → (j : ℕ) (k : Kind) → Numeric k → At s j x → Follow (byteAt s (j + length x))
+      → ReadsTo (exponentAt s j k) (j + length x)
   unfolding exponentAt
   exponent-reads [] h j k n a f = let z : j + 0 ≡ j = omega arith in let t = follow-ways (byteAt s j) (rw z at f) .2 in (k, n, rw (z, t))
   exponent-reads (c ∷ w) h j k n a f =
@@ -232,7 +238,8 @@ module _ (s : List ℕ) where
       ⊎-elim (λ x. rw (a .0, x .0, x .1) (refl, omega arith))
       (λ x. (rw (a .0, ne-eqb c 0x30 (λ q. omega arith)) (run-reads isDigit s (c ∷ w) j (rw (x .1, x .2)) a n), omega arith)) (int-ways c w h)
 
-  unsigned-reads : (w f x : List ℕ) → isInt w ≡ true → isFraction f ≡ true → isExponent x ≡ true → (j : ℕ) → At s j (w ++ (f ++ x)) → Follow (byteAt s (j + length (w ++ (f ++ x))))
+  unsigned-reads : (w f x : List ℕ) → isInt w ≡ true → isFraction f ≡ true → isExponent x ≡ true → (j : ℕ) → At s j (w ++ (f ++ x))
+      → Follow (byteAt s (j + length (w ++ (f ++ x))))
       → ReadsTo (unsignedAt s j) (j + length (w ++ (f ++ x)))
   unfolding unsignedAt
   unsigned-reads w f x hw hf hx j a n =

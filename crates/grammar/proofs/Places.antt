@@ -6,6 +6,7 @@ use mathlib.Core.List.{List, _++_}
 use native.Mathlib.Omega.{arith}
 use lib.ListN.{length, take, length-take}
 use lib.Seq.{length-take-le, getD-take, take-at}
+use Rattle.model.proofs.Basics.{never}
 use Rattle.chars.specs.Bytes.{byteAt}
 use Rattle.tokens.specs.Parse.{refused, parsed}
 use Rattle.syntax.specs.Grammar.{wholeAt, readText}
@@ -56,5 +57,4 @@ module _ (bytes d : ℕ) (s : List ℕ) (c p : ℕ) (q : readText bytes d s ≡ 
       let m = byte-place (omega arith) l in
       let e = place-alike l t (agree-take s t (p + 1) (omega arith) (take-at (take (p + 1) s) (b .rest) (p + 1) (length-take-le (p + 1) s (omega arith)))) in
       let z : parsed (x .0) (x .1) ≡ refused c p = sym (x .2) ∙ short-whole d t (length t) (omega arith) ∙ e in
-      let y : _≡_ {A = ℕ} 0 1 = cc in
-      omega arith
+      never (cc)

@@ -22,11 +22,13 @@ module _ (which w : ℕ) where
   unfolding answerOf
   refused-unread c p l h = ⊎-elim (λ z. omega arith) (λ z. omega arith)
 
-  pub answer-refused : (o : Parse Node) → 2 ≤ answerOf which w o .code → answerOf which w o .code ≤ 7 → o ≡ refused (answerOf which w o .code) (answerOf which w o .place)
+  pub answer-refused : (o : Parse Node) → 2 ≤ answerOf which w o .code → answerOf which w o .code ≤ 7
+      → o ≡ refused (answerOf which w o .code) (answerOf which w o .place)
   unfolding answerOf
   answer-refused (refused c p) l h = refl
   answer-refused (parsed n e) l h = absurd (go (leb (size n) (rowsIn w)) l h)
     where
-      go : (b : Bool) → 2 ≤ cond b (answer 0 0 0 (size n)) (answer 8 which 0 (size n)) .code → cond b (answer 0 0 0 (size n)) (answer 8 which 0 (size n)) .code ≤ 7 → ⊥
+      go : (b : Bool) → 2 ≤ cond b (answer 0 0 0 (size n)) (answer 8 which 0 (size n)) .code
+          → cond b (answer 0 0 0 (size n)) (answer 8 which 0 (size n)) .code ≤ 7 → ⊥
       go true l h = omega arith
       go false l h = omega arith

@@ -66,15 +66,19 @@ module _ {L A : Type 0} {s : List ℕ} {rows : L → ℕ} {item : L → ℕ → 
         let x = between-join (between s (so-far .ahead)) (between-join (between s (space .ahead)) (between-join (between-one s l q) (between s (y .ahead)))) in
         rw (x .bytes) (simp append-assoc (next-item (part s e k) (part s (k + 1) (skip s (k + 1))) (so-far .spells) (space .spells) (y .spells) h))
 
-  items-sound : (f : ℕ) (j : ℕ) (before : L) (i : ℕ) → j ≤ i → i ≤ length s → length s < i + f → Ready (part s j i) before → Sound Closed mean s j (itemsAt closing item s before i)
+  items-sound : (f : ℕ) (j : ℕ) (before : L) (i : ℕ) → j ≤ i → i ≤ length s → length s < i + f → Ready (part s j i) before
+      → Sound Closed mean s j (itemsAt closing item s before i)
   items-sound zero j before i ji il h ready = absurd (omega arith)
   items-sound (suc f) j before i ji il h ready = go (λ all i. items-sound f j all i) (item before i) refl (sound before i il)
     where
       go : ((all : L) (n : ℕ) → j ≤ n → n ≤ length s → length s < n + f → Ready (part s j n) all → Sound Closed mean s j (itemsAt closing item s all n))
           → (o : Parse L) → item before i ≡ o → Sound (Item (mean before)) mean s i o → Sound Closed mean s j (itemsAt closing item s before i)
       go rec (refused c p) q g =
-          rw (items-refused r closing q)
-          (begun-more (between s ji) (closing ∷ []) (λ a. a) (λ w a x. (part s j i ++ w, [], sym (append-assoc (part s j i) w (closing ∷ [])), ready w a x, refl)) (g .0), g .1)
+          rw (items-refused r closing q) (
+            begun-more (between s ji) (closing ∷ []) (λ a. a)
+                (λ w a x. (part s j i ++ w, [], sym (append-assoc (part s j i) w (closing ∷ [])), ready w a x, refl)) (g .0),
+            g .1,
+          )
       go rec (parsed all e) q g =
           let c : Spelled SeriesOf s j e (mean all) = spelled-in (between s ji) (λ a. a) ready g in
           let k : ℕ = skip s e in
@@ -84,7 +88,8 @@ module _ {L A : Type 0} {s : List ℕ} {rows : L → ℕ} {item : L → ℕ → 
           let l = in-text s k (omega arith) in
           let x = space-spelled s (k + 1) (omega arith) in
           rw (items-next r closing q refl z)
-          (rec all (skip s (k + 1)) (omega (arith, c .ahead, y .ahead, x .ahead)) (x .within) (omega (arith, item-takes r q, y .ahead, x .ahead)) (comma j all e c z)))
+          (rec all (skip s (k + 1)) (omega (arith, c .ahead, y .ahead, x .ahead)) (x .within) (omega (arith, item-takes r q, y .ahead, x .ahead))
+          (comma j all e c z)))
           (λ t. by-test (eqb (byteAt s k) closing)
           (λ u. let z : byteAt s k ≡ closing = eqb-true _ _ u in rw (items-close r closing q refl (λ c. eqb-false _ _ t (z ∙ c)) z) (closed j all e c z))
           (λ u. rw (items-bad r closing q refl (eqb-false _ _ t) (eqb-false _ _ u)) (unexpected-sound Closed mean s j k (no-comma j all e c))))
@@ -100,10 +105,12 @@ module _ {L A : Type 0} {s : List ℕ} {rows : L → ℕ} {item : L → ℕ → 
         (λ t. let z : byteAt s j ≡ closing = eqb-true _ _ t in
         let m = in-text s j (omega arith) in
         let x₂ = between-join x (between-one s m z) in
-        rw (list-empty closing item s empty i refl z) (record { ahead = x₂ .order; within = omega arith; spells = rw (x₂ .bytes) (no-items (part s (i + 1) j) (y .spells)) }))
+        rw (list-empty closing item s empty i refl z)
+        (record { ahead = x₂ .order; within = omega arith; spells = rw (x₂ .bytes) (no-items (part s (i + 1) j) (y .spells)) }))
         (λ t. rw (list-items closing item s empty i refl (eqb-false _ _ t))
         (sound-in Closed ListOf x (λ a. a) (λ w all c. rw (c .2) (some-items (part s (i + 1) j) (c .1) (y .spells) (c .3) (c .4))) mean
-        (itemsAt closing item s empty j) (items-sound (suc (length s)) j empty j (omega arith) (y .within) (omega arith) (λ x all h. rw (part-none s j) (first-item h)))))
+        (itemsAt closing item s empty j) (items-sound (suc (length s)) j empty j (omega arith) (y .within) (omega arith)
+        (λ x all h. rw (part-none s j) (first-item h)))))
 
 -- ---- what is spelled so
 
@@ -111,7 +118,9 @@ module _ {L A : Type 0} {s : List ℕ} {rows : L → ℕ} {item : L → ℕ → 
 pub space-follow : (b : ℕ) → isSpace b ≡ true → Follow b
 unfolding isSpace
 space-follow b t =
-    by-test (eqb b 0x20) (is 0x20 refl) (λ u₁. by-test (eqb b 0x09) (is 0x09 refl) (λ u₂. by-test (eqb b 0x0A) (is 0x0A refl) (λ u₃. is 0x0D refl (rw (u₁, u₂, u₃) at t))))
+    by-test (eqb b 0x20) (is 0x20 refl)
+    (λ u₁. by-test (eqb b 0x09) (is 0x09 refl)
+    (λ u₂. by-test (eqb b 0x0A) (is 0x0A refl) (λ u₃. is 0x0D refl (rw (u₁, u₂, u₃) at t))))
   where
     is : (c : ℕ) → Follow c → eqb b c ≡ true → Follow b
     is c f u = rw (eqb-true b c u) f

@@ -10,7 +10,7 @@ use lib.Dec.{ltb}
 use borrow.Author.Tests.{ltb-true, ltb-false, le-ltb}
 use Rattle.model.specs.Value.{Value}
 use Rattle.model.specs.Text.{all as every}
-use Rattle.model.proofs.Basics.{by-test, both, and-ways}
+use Rattle.model.proofs.Basics.{never, by-test, both, and-ways}
 use Rattle.chars.specs.Bytes.{byteAt}
 use Rattle.tokens.specs.Parse.{Parse, refused, parsed, then}
 use Rattle.tokens.specs.Space.{isSpace, skip}
@@ -56,7 +56,8 @@ module _ (d : ℕ) (s : List ℕ) where
       let x : Spelled (TrimmedText d) s 0 (skip s e) (valueOf s n) =
       spelled-in (between-join (between s (lead .ahead)) (between s (b .ahead))) (λ _. valueOf s n)
       (λ w _ h. rw append-assoc (text-of (part s j e) w (valueOf s n) (b .spells) h)) y in
-      both (Sound (TrimmedText d) (valueOf s) s 0) (ltb (skip s e) (length s)) (λ t. (spelled-begun x, inr (omega arith, ltb-true (skip s e) (length s) t))) (λ _. x)
+      both (Sound (TrimmedText d) (valueOf s) s 0) (ltb (skip s e) (length s)) (λ t. (spelled-begun x, inr (omega arith, ltb-true (skip s e) (length s) t)))
+      (λ _. x)
 
   pub whole-sound : Sound (TrimmedText d) (valueOf s) s 0 (wholeAt d s)
   whole-sound = go (valueAt d s j) (value-sound s d j (lead .within))
@@ -81,7 +82,7 @@ module _ (d : ℕ) (s : List ℕ) where
     -- what is read is a text, of the value of its tree
     pub reads-trimmed : (n : Node) (e : ℕ) → readText bytes d s ≡ parsed n e → TrimmedText d s (valueOf s n)
     reads-trimmed n e q =
-        let h = not-long (parsed n e) q (λ z. let y : _≡_ {A = ℕ} 0 1 = cc in omega arith) in
+        let h = not-long (parsed n e) q (λ z. never (cc)) in
         let g : Spelled (TrimmedText d) s 0 e (valueOf s n) = rw (sym (short-whole h) ∙ q) at whole-sound in
         let z : e ≡ length s = read-whole bytes d s n e q in
         subst (λ (w : List ℕ). TrimmedText d w (valueOf s n)) (from-start e ∙ take-all e s (omega arith)) (g .spells)
@@ -117,5 +118,6 @@ module _ (d : ℕ) (s : List ℕ) where
         let y = behind s (t .b) e (t .space-b) a₃ z in
         let z₁ : skip s 0 ≡ k = skip-reads s (t .a) (t .x ++ t .b) 0 (t .space-a) a₀ (value-first s d k (t .x) v (t .inside) a₂ .0) in
         let r = value-reads s d k (t .x) v (t .inside) a₂ (y .0) in
-        let q : wholeAt d s ≡ alone s (r .0) e = ap (λ (m : ℕ). then (valueAt d s m) (λ n e. alone s n e)) z₁ ∙ ap (λ (o : Parse Node). then o (λ n e. alone s n e)) (r .1) in
+        let q : wholeAt d s ≡ alone s (r .0) e =
+        ap (λ (m : ℕ). then (valueAt d s m) (λ n e. alone s n e)) z₁ ∙ ap (λ (o : Parse Node). then o (λ n e. alone s n e)) (r .1) in
         (r .0, length s, short-whole l ∙ q ∙ rw (y .1, le-ltb (length s) (length s) (omega arith)), r .2)

@@ -84,7 +84,8 @@ module _ (l : Limits) (which w : ℕ) (s : List ℕ) where
   }
 
   -- a text with the same bytes up to the place of a refusal with 3 to 7 is refused alike, unless it is too long
-  pub refused-alike : (t : List ℕ) → 3 ≤ answered .code → answered .code ≤ 7 → take (answered .place + 1) t ≡ take (answered .place + 1) s → length t ≤ bytesWithin l
+  pub refused-alike : (t : List ℕ) → 3 ≤ answered .code → answered .code ≤ 7 → take (answered .place + 1) t ≡ take (answered .place + 1) s
+      → length t ≤ bytesWithin l
       → answerOf which w (readWithin l t) ≡ answered
   refused-alike t m h e k =
       let q = refusal (omega arith) h in

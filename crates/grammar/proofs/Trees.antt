@@ -75,7 +75,8 @@ pub walk-sound : (x : Tree) → Good x → (s : List ℕ) (i : ℕ) → i ≤ le
 walk-sound (give v) g s i l = record { ahead = omega arith; within = l; spells = rw (part-none s i) refl }
 walk-sound (next t c f) g s i l =
     both (Stepped (next t c f) s i) (t (byteAt s i))
-    (λ h. let m = passes-in t (g .0) s i h in lift t c f s i m h (walk (f (byteAt s i)) s (i + 1)) (walk-sound (f (byteAt s i)) (g .3 (byteAt s i) h) s (i + 1) (omega arith)))
+    (λ h. let m = passes-in t (g .0) s i h in lift t c f s i m h (walk (f (byteAt s i)) s (i + 1))
+    (walk-sound (f (byteAt s i)) (g .3 (byteAt s i) h) s (i + 1) (omega arith)))
     (λ _. let r = some (next t c f) g in
     let b = begun-none (Lang (next t c f)) s i (r .0) (r .1) l (r .2) in
     stop-ways (Stepped (next t c f) s i) s i (c (byteAt s i)) (λ m. (b, inr (g .4 (byteAt s i), m))) (λ m. (begun-same (omega arith) b, inl (refl, refl))))

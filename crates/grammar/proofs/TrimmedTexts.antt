@@ -9,7 +9,8 @@ use Rattle.model.specs.Value.{Value, array, object, Values, vnil, vcons, Member
 use Rattle.model.proofs.Basics.{or-false, same-comm}
 use Rattle.grammar.specs.Written.{Language, structural, values, IsArray, is-array, Member, IsMember, is-member, members, Differ}
 use Rattle.grammar.specs.Written.{IsObject, is-object, IsValue, IsJsonText, is-text}
-use Rattle.grammar.proofs.Trimmed.{Padded, addValue, addMember, TrimmedElement, TrimmedMember, TrimmedBracketed, TrimmedArray, TrimmedObject, TrimmedValue, TrimmedText}
+use Rattle.grammar.proofs.Trimmed.{Padded, addValue, addMember, TrimmedElement, TrimmedMember, TrimmedBracketed, TrimmedArray}
+use Rattle.grammar.proofs.Trimmed.{TrimmedObject, TrimmedValue, TrimmedText}
 use Rattle.grammar.proofs.Trimming.{space-append, padded-as, padded-none, adds, Fits, bracketed-trim, bracketed-spread}
 
 -- ---- elements
@@ -49,7 +50,8 @@ module _ (IsItem Item : Language Value) where
 
   array-spread : ((w : List ℕ) (v : Value) → Item w v → IsItem w v) → (w : List ℕ) (v : Value) → TrimmedArray Item w v → IsArray IsItem w v
   array-spread spread w v h =
-      let r = bracketed-spread IsItem (TrimmedElement Item) addValue Anywhere vnil (λ before w all e. (e .value, spread w (e .value) (e .is-value), e .added, tt)) (h .2) in
+      let r = bracketed-spread IsItem (TrimmedElement Item) addValue Anywhere vnil
+      (λ before w all e. (e .value, spread w (e .value) (e .is-value), e .added, tt)) (h .2) in
       subst (IsArray IsItem w) (ap array (sym (r .adds-up ∙ values-added vnil (r .items))) ∙ sym (h .1)) (is-array (r .spells))
 
 -- ---- members
@@ -152,14 +154,16 @@ module _ (IsItem Item : Language Value) where
   object-trim : ((w : List ℕ) (v : Value) → IsItem w v → Padded Item w v) → {w : List ℕ} {v : Value} → IsObject IsItem w v → Padded (TrimmedObject Item) w v
   object-trim trim (is-object {w} {ms} h d) =
       padded-as (λ x t. (members ms, refl, subst (TrimmedBracketed 0x7B 0x7D (TrimmedMember Item) mnil x) (members-added mnil ms) t))
-      (bracketed-trim (IsMember IsItem) (TrimmedMember Item) addPair NewName mnil (member-trim trim) h (differ-fit mnil ms (subst Differ (sym (members-added mnil ms)) d) .1))
+      (bracketed-trim (IsMember IsItem) (TrimmedMember Item) addPair NewName mnil (member-trim trim) h
+      (differ-fit mnil ms (subst Differ (sym (members-added mnil ms)) d) .1))
 
   object-spread : ((w : List ℕ) (v : Value) → Item w v → IsItem w v) → (w : List ℕ) (v : Value) → TrimmedObject Item w v → IsObject IsItem w v
   object-spread spread w v h =
       let r = bracketed-spread (IsMember IsItem) (TrimmedMember Item) addPair NewName mnil
       (λ before w all e. (
         record { name = e .name; value = e .value },
-        subst (λ (z : List ℕ). IsMember IsItem z (record { name = e .name; value = e .value })) (ap (λ (t : List ℕ). e .quoted ++ t) (append-assoc (e .a) (0x3A ∷ e .b) (e .x)) ∙ sym (e .spelled))
+        subst (λ (z : List ℕ). IsMember IsItem z (record { name = e .name; value = e .value }))
+            (ap (λ (t : List ℕ). e .quoted ++ t) (append-assoc (e .a) (0x3A ∷ e .b) (e .x)) ∙ sym (e .spelled))
             (is-member (e .is-name) (structural (e .a) (e .b) (e .space-a) (e .space-b)) (spread (e .x) (e .value) (e .is-value))),
         e .added,
         e .differs,
@@ -200,4 +204,6 @@ text-trim {d} {v = v} (is-text a w b sa h sb) =
     }
 
 pub text-spread : {d : ℕ} {s : List ℕ} {v : Value} → TrimmedText d s v → IsJsonText d s v
-text-spread {d} {v = v} t = subst (λ (z : List ℕ). IsJsonText d z v) (sym (t .spelled)) (is-text (t .a) (t .x) (t .b) (t .space-a) (value-spread d (t .x) v (t .inside)) (t .space-b))
+text-spread {d} {v = v} t =
+    subst (λ (z : List ℕ). IsJsonText d z v) (sym (t .spelled))
+    (is-text (t .a) (t .x) (t .b) (t .space-a) (value-spread d (t .x) v (t .inside)) (t .space-b))

@@ -2,7 +2,7 @@
 use Prim.Native.Nat.{ℕ}
 use mathlib.Core.Path.{_≡_, refl, sym, ap, _∙_, subst}
 use mathlib.Core.List.{List, [], _∷_, _++_, append-assoc, append-nil}
-use Rattle.tokens.proofs.Facts.{all-append}
+use Rattle.model.proofs.Basics.{all-append}
 use Rattle.grammar.specs.Written.{Language, IsSpace, IsStructural, structural, IsSeries, one, more, IsBracketed, empty, series}
 use Rattle.grammar.proofs.Trimmed.{Padded, TrimmedSeries, first-item, next-item, TrimmedBracketed, no-items, some-items}
 
@@ -34,7 +34,8 @@ first-items : (a x b k m y z : List ℕ) → y ≡ a ++ (x ++ b) → y ++ (k ++ 
 first-items a x b k m y z e = rw e (simp append-assoc)
 
 -- a series w, which is x between space, in brackets; and no item
-between-brackets : (a b c d x y z w : List ℕ) (o e : ℕ) → w ≡ y ++ (x ++ z) → a ++ (o ∷ b) ++ (w ++ (c ++ (e ∷ d))) ≡ a ++ (o ∷ b ++ y ++ (x ++ (z ++ c ++ (e ∷ []))) ++ d)
+between-brackets : (a b c d x y z w : List ℕ) (o e : ℕ) → w ≡ y ++ (x ++ z)
+    → a ++ (o ∷ b) ++ (w ++ (c ++ (e ∷ d))) ≡ a ++ (o ∷ b ++ y ++ (x ++ (z ++ c ++ (e ∷ []))) ++ d)
 between-brackets a b c d x y z w o e h =
     let inner : b ++ (w ++ (c ++ (e ∷ d))) ≡ b ++ y ++ (x ++ (z ++ c ++ (e ∷ []))) ++ d = rw h (simp append-assoc) in
     append-assoc a (o ∷ b) (w ++ (c ++ (e ∷ d))) ∙ ap (λ (t : List ℕ). a ++ (o ∷ t)) inner
@@ -59,7 +60,8 @@ module _ {A L : Type 0} (IsItem : Language A) (Item : L → Language L) (add : L
   -- from the written grammar
   module _ (trim : (before : L) (w : List ℕ) (a : A) → IsItem w a → Fit before a → Padded (Item before) w (add before a)) where
     -- a series behind another and a comma
-    behind : {x : List ℕ} {items : List A} → IsSeries IsItem x items → (before : L) → Fits add Fit before items → (w g h : List ℕ) → TrimmedSeries Item none w before → IsSpace g → IsSpace h
+    behind : {x : List ℕ} {items : List A} → IsSeries IsItem x items → (before : L) → Fits add Fit before items → (w g h : List ℕ)
+        → TrimmedSeries Item none w before → IsSpace g → IsSpace h
         → (z : List ℕ) × (b : List ℕ) × (w ++ (g ++ (0x2C ∷ h ++ x)) ≡ z ++ b) × IsSpace b × TrimmedSeries Item none z (adds add before items)
     behind (one {w = y} {a} i) before f w g h t sg sh =
         let p = trim before y a i (f .0) in (
@@ -91,7 +93,8 @@ module _ {A L : Type 0} (IsItem : Language A) (Item : L → Language L) (add : L
           inside = r .4;
         }
 
-    pub bracketed-trim : {o c : ℕ} {w : List ℕ} {items : List A} → IsBracketed o c IsItem w items → Fits add Fit none items → Padded (TrimmedBracketed o c Item none) w (adds add none items)
+    pub bracketed-trim : {o c : ℕ} {w : List ℕ} {items : List A} → IsBracketed o c IsItem w items → Fits add Fit none items
+        → Padded (TrimmedBracketed o c Item none) w (adds add none items)
     bracketed-trim {o} {c} (empty (structural a b sa sb) (structural k m sk sm)) f = record {
       a = a;
       x = o ∷ b ++ k ++ (c ∷ []);
@@ -123,7 +126,8 @@ module _ {A L : Type 0} (IsItem : Language A) (Item : L → Language L) (add : L
   fits-last before [] a f g = (g, tt)
   fits-last before (b ∷ items) a f g = (f .0, fits-last (add before b) items a (f .1) g)
 
-  series-last : {w c x : List ℕ} {items : List A} {a : A} → IsSeries IsItem w items → IsStructural 0x2C c → IsItem x a → IsSeries IsItem (w ++ (c ++ x)) (items ++ (a ∷ []))
+  series-last : {w c x : List ℕ} {items : List A} {a : A} → IsSeries IsItem w items → IsStructural 0x2C c → IsItem x a
+      → IsSeries IsItem (w ++ (c ++ x)) (items ++ (a ∷ []))
   series-last (one i) k j = more i k (one j)
   series-last {c = c} {x = x} {a = a} (more {w} {c = d} {x = y} {a = b} {rest = items} i k s) m j =
       subst (λ (z : List ℕ). IsSeries IsItem z (b ∷ items ++ (a ∷ []))) (again w d y c x) (more i k (series-last s m j))
@@ -146,7 +150,8 @@ module _ {A L : Type 0} (IsItem : Language A) (Item : L → Language L) (add : L
         let q = spread before x all i in
         record {
           items = r .items ++ (q .0 ∷ []);
-          spells = subst (λ (z : List ℕ). IsSeries IsItem (w ++ z) (r .items ++ (q .0 ∷ []))) (append-assoc g (0x2C ∷ h) x) (series-last (r .spells) (structural g h sg sh) (q .1));
+          spells = subst (λ (z : List ℕ). IsSeries IsItem (w ++ z) (r .items ++ (q .0 ∷ []))) (append-assoc g (0x2C ∷ h) x)
+              (series-last (r .spells) (structural g h sg sh) (q .1));
           adds-up = q .2 ∙ ap (λ (l : L). add l (q .0)) (r .adds-up) ∙ sym (adds-last none (r .items) (q .0));
           fits = fits-last none (r .items) (q .0) (r .fits) (subst (λ (l : L). Fit l (q .0)) (r .adds-up) (q .3));
         }

@@ -22,7 +22,8 @@ is-scalar v (inr h) = or-right (ltb v 0xD800) _ (rw (le-leb 0xE000 v (h .0), le-
 
 pub scalar-range : (v : ℕ) → isScalar v ≡ true → ScalarRange v
 scalar-range v t =
-    ⊎-elim (λ u. inl (ltb-true v 0xD800 u)) (λ u. and-ways (leb 0xE000 v) (leb v 0x10FFFF) u (λ l m. inr (leb-true _ _ l, leb-true _ _ m))) (or-true (ltb v 0xD800) _ t)
+    ⊎-elim (λ u. inl (ltb-true v 0xD800 u)) (λ u. and-ways (leb 0xE000 v) (leb v 0x10FFFF) u (λ l m. inr (leb-true _ _ l, leb-true _ _ m)))
+    (or-true (ltb v 0xD800) _ t)
 
 -- ---- the first two bytes of three and of four
 
@@ -48,7 +49,8 @@ pub starts-three : (b c : ℕ) → In 0xE0 0xEF b → IsTail c → (b ≡ 0xE0 �
 starts-three b c h t f g =
     by-test (eqb b 0xE0) (λ e. let e = eqb-true b 0xE0 e in rw e (e0 (f e, t .1)))
     (λ n. by-test (eqb b 0xED) (λ e. let e = eqb-true b 0xED e in rw e (ed (t .0, g e)))
-    (λ m. by-test (ltb b 0xED) (λ l. e1-ec (omega (arith, eqb-false b 0xE0 n, ltb-true b 0xED l)) t) (λ l. ee-ef (omega (arith, eqb-false b 0xED m, ltb-false b 0xED l)) t)))
+    (λ m. by-test (ltb b 0xED) (λ l. e1-ec (omega (arith, eqb-false b 0xE0 n, ltb-true b 0xED l)) t)
+    (λ l. ee-ef (omega (arith, eqb-false b 0xED m, ltb-false b 0xED l)) t)))
 
 pub starts-four : (b c : ℕ) → In 0xF0 0xF4 b → IsTail c → (b ≡ 0xF0 → 0x90 ≤ c) → (b ≡ 0xF4 → c ≤ 0x8F) → StartsFour b c
 starts-four b c h t f g =

@@ -62,7 +62,8 @@ module _ (s : List ℕ) where
       → Sound (TrimmedElement (TrimmedValue d) (valuesOf s before)) (valuesOf s) s i (elementAt v before i)
   element-sound d v sound before i l =
       sound-as (TrimmedValue d) (TrimmedElement (TrimmedValue d) (valuesOf s before)) (between-none s i) (addValue (valuesOf s before))
-      (λ w a h. record { value = a; is-value = h; added = refl }) (valueOf s) (valuesOf s) (λ n _. addNode before n) (λ n _. sym (values-add s before n)) (v i) (sound i l)
+      (λ w a h. record { value = a; is-value = h; added = refl }) (valueOf s) (valuesOf s) (λ n _. addNode before n) (λ n _. sym (values-add s before n))
+      (v i) (sound i l)
 
   pub value-sound : (d i : ℕ) → i ≤ length s → Sound (TrimmedValue d) (valueOf s) s i (valueAt d s i)
   unfolding valueAt TrimmedValue
@@ -76,9 +77,11 @@ module _ (s : List ℕ) where
       (list-sound (element-reads s d) (TrimmedElement (TrimmedValue d)) (valuesOf s) none
       (element-sound d (valueAt d s) (value-sound d)) 0x5B 0x5D (omega arith) i q (in-text s i (omega arith))))
       (λ q. sound-as (TrimmedBracketed 0x7B 0x7D (TrimmedMember (TrimmedValue d)) mnil) (TrimmedValue (suc d)) (between-none s i) object
-      (λ w ms h. inr (inr (ms, refl, h))) (membersOf s) (valueOf s) (λ ms e. nodeObject i e ms) (λ ms e. refl) (listAt 0x7D (memberAt (valueAt d s) s) s no-member i)
+      (λ w ms h. inr (inr (ms, refl, h))) (membersOf s) (valueOf s) (λ ms e. nodeObject i e ms) (λ ms e. refl)
+      (listAt 0x7D (memberAt (valueAt d s) s) s no-member i)
       (list-sound (member-takes s d) (TrimmedMember (TrimmedValue d)) (membersOf s) no-member
-      (member-sound s (TrimmedValue d) (leaf-value d (text "null") null refl) (valueAt d s) (value-sound d)) 0x7B 0x7D (omega arith) i q (in-text s i (omega arith))))
+      (member-sound s (TrimmedValue d) (leaf-value d (text "null") null refl) (valueAt d s) (value-sound d)) 0x7B 0x7D (omega arith) i q
+      (in-text s i (omega arith))))
 
 -- ---- what is spelled so
 
@@ -121,7 +124,8 @@ module _ (s : List ℕ) where
     object-read i w v h a =
         let f = object-first (byteAt s i) (bracket-first (h .2) s i a) in
         let x = list-reads (member-takes s d) (TrimmedMember (TrimmedValue d)) (membersOf s) no-member 0x7B 0x7D (λ q. omega arith) refl refl
-        (member-reads s (TrimmedValue d) (valueAt d s) reads (value-first d)) (member-first s (TrimmedValue d) (valueAt d s) reads (value-first d)) (h .2) i a in
+        (member-reads s (TrimmedValue d) (valueAt d s) reads (value-first d)) (member-first s (TrimmedValue d) (valueAt d s) reads (value-first d))
+        (h .2) i a in
         (nodeObject i (i + length w) (x .0), rw (f, x .1), ap object (x .2) ∙ sym (h .1))
 
   pub value-reads : (d : ℕ) → Complete (TrimmedValue d) (valueOf s) s (valueAt d s)

@@ -9,7 +9,7 @@ use Rattle.syntax.specs.declared.answers.Answer.{Answer}
 use Rattle.syntax.specs.declared.limits.Limits.{Limits}
 use Rattle.grammar.specs.Written.{IsJsonText, Begins}
 
--- the limits that count: none above a document's (reader/specs/Answer, `readWithin`)
+-- the limits that count: none above a document's (syntax/specs/Answer, `readWithin`)
 abbrev pub bytesWithin : Limits → ℕ
 bytesWithin l = min (l .bytes) 65536
 

@@ -32,7 +32,8 @@ pub data IsUtf8 : List ℕ → ℕ → Type 0 where
   -- UTF8-2 = %xC2-DF UTF8-tail
   utf8-2 : {b c : ℕ} → In 0xC2 0xDF b → IsTail c → IsUtf8 (b ∷ c ∷ []) (64 * (b - 0xC0) + (c - 0x80))
   utf8-3 : {b c d : ℕ} → StartsThree b c → IsTail d → IsUtf8 (b ∷ c ∷ d ∷ []) (4096 * (b - 0xE0) + 64 * (c - 0x80) + (d - 0x80))
-  utf8-4 : {b c d e : ℕ} → StartsFour b c → IsTail d → IsTail e → IsUtf8 (b ∷ c ∷ d ∷ e ∷ []) (262144 * (b - 0xF0) + 4096 * (c - 0x80) + 64 * (d - 0x80) + (e - 0x80))
+  utf8-4 : {b c d e : ℕ} → StartsFour b c → IsTail d → IsTail e
+      → IsUtf8 (b ∷ c ∷ d ∷ e ∷ []) (262144 * (b - 0xF0) + 4096 * (c - 0x80) + 64 * (d - 0x80) + (e - 0x80))
 
 -- the bytes of a Unicode scalar value (section 3): the only ones that the table has for it (`utf8-spelled`, `utf8-only`)
 unfoldable pub utf8 : ℕ → List ℕ

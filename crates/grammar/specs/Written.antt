@@ -1,5 +1,7 @@
--- The written grammar: RFC 8259, sections 2 to 7, as 01 ("Text") narrows it: strict UTF-8, surrogate escapes in pairs, names that differ, a limit on open brackets.
--- Each production says of a list of bytes that it is spelled so, and what it spells. There is no place and no order of reading here, and no limit on the length.
+-- The written grammar: RFC 8259, sections 2 to 7, as 01 ("Text") narrows it:
+-- strict UTF-8, surrogate escapes in pairs, names that differ, a limit on open brackets.
+-- Each production says of a list of bytes that it is spelled so, and what it spells.
+-- There is no place and no order of reading here, and no limit on the length.
 use Prim.Native.Nat.{ℕ, zero, suc, _+_, _-_, _*_, _≤_}
 use mathlib.Core.Path.{_≡_}
 use mathlib.Core.Logic.{_⊎_}
@@ -20,7 +22,8 @@ Language A = List ℕ → A → Type 0
 abbrev pub IsSpace : List ℕ → Type 0
 IsSpace w = all (λ b. eqb b 0x20 || eqb b 0x09 || eqb b 0x0A || eqb b 0x0D) w ≡ true
 
--- begin-array = ws %x5B ws, begin-object = ws %x7B ws, end-array = ws %x5D ws, end-object = ws %x7D ws, name-separator = ws %x3A ws, value-separator = ws %x2C ws: the byte b with ws on both sides
+-- begin-array = ws %x5B ws, begin-object = ws %x7B ws, end-array = ws %x5D ws, end-object = ws %x7D ws,
+-- name-separator = ws %x3A ws, value-separator = ws %x2C ws: the byte b with ws on both sides
 pub data IsStructural (b : ℕ) : List ℕ → Type 0 where
   structural : (a c : List ℕ) → IsSpace a → IsSpace c → IsStructural b (a ++ (b ∷ c))
 
@@ -101,7 +104,8 @@ pub record Member : Type 0 where
 
 -- member = string name-separator value
 pub data IsMember (IsItem : Language Value) : List ℕ → Member → Type 0 where
-  is-member : {w c x n : List ℕ} {v : Value} → IsString w n → IsStructural 0x3A c → IsItem x v → IsMember IsItem (w ++ (c ++ x)) (record { name = n; value = v })
+  is-member : {w c x n : List ℕ} {v : Value} → IsString w n → IsStructural 0x3A c → IsItem x v
+      → IsMember IsItem (w ++ (c ++ x)) (record { name = n; value = v })
 
 -- the members of an object
 abbrev pub members : List Member → Members

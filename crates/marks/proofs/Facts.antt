@@ -1,6 +1,10 @@
 -- What the crates above cite.
-pub use Rattle.marks.proofs.marks.Laws.{leaf-row, leaf-unnamed, list-row, list-unnamed, name-named, name-numbers, name-row}
-pub use Rattle.marks.proofs.marks.Laws.{nothing-unnamed, rows-append, rows-cons, rows-none}
+
+-- marks, and the rows that they stand for
+pub use Rattle.marks.proofs.marks.Laws.{leaf-row, leaf-unnamed, list-row, list-unnamed, name-row, name-named, name-numbers}
+pub use Rattle.marks.proofs.marks.Laws.{nothing-unnamed, rows-none, rows-cons, rows-append}
+-- the index of names
 pub use Rattle.marks.proofs.names.Index.{bucket-in, index-fresh, index-head, index-plain}
-pub use Rattle.marks.proofs.names.Owners.{fresh-later, fresh-set, kept-add, kept-kept, kept-within, same-below, within-empty}
-pub use Rattle.marks.proofs.names.Owners.{within-join, within-kept, within-none, within-set, within-wider}
+-- to which object the names among the marks belong
+pub use Rattle.marks.proofs.names.Owners.{same-below, fresh-later, fresh-set, kept-add, kept-kept, kept-within, within-empty}
+pub use Rattle.marks.proofs.names.Owners.{within-none, within-join, within-wider, within-kept, within-set}

@@ -1,3 +1,4 @@
 pub mod Index
 pub mod Owners
 pub mod Search
+pub mod Told

@@ -1,7 +1,7 @@
 -- For private contracts: the names among the marks, by which the first pass finds a repeated one, and their index by hash.
-use Prim.Native.Nat.{ℕ, zero, suc, _+_, _*_, _/_, _%_, _≤_, _<_}
+use Prim.Native.Nat.{ℕ, _+_, _*_, _/_, _%_, _≤_, _<_}
 use mathlib.Core.Path.{_≡_}
-use mathlib.Core.Bool.{Bool, true, false, cond, _&&_}
+use mathlib.Core.Bool.{Bool, true, false, _&&_}
 use mathlib.Core.List.{List}
 use lib.ListN.{length, getD}
 use lib.Dec.{eqb}
@@ -10,7 +10,7 @@ use Rattle.tokens.specs.Parse.{Parse, refused, parsed}
 use Rattle.tokens.specs.Tokens.{Kind}
 use Rattle.chars.specs.declared.hashing.Hashed.{Hashed}
 use Rattle.chars.specs.declared.hashing.Hashed.the-variants.{Name, Broken}
-use Rattle.chars.specs.Hashing.{hashOf}
+use Rattle.chars.specs.Hashing.{hashOf, lastPassing}
 use Rattle.syntax.specs.Tree.{Members, no-member, member}
 use Rattle.syntax.specs.Rows.{size, sizesMembers}
 use Rattle.syntax.specs.Grammar.{nameOf, nameAt}
@@ -79,19 +79,18 @@ bucketOf k hash = hash * k / 65536
 abbrev pub inBucket : ℕ → ℕ → ℕ → Bool
 inBucket k b x = isName x && eqb (bucketOf k (hashIn x)) b
 
--- the row of the last name below row n in the bucket b of k; 0 for none
-unfoldable pub lastIn : ℕ → List ℕ → ℕ → ℕ → ℕ
-lastIn k ms b zero = 0
-lastIn k ms b (suc n) = let r = lastIn k ms b n in cond (inBucket k b (getD ms n 0)) n r
+-- row j has such a mark
+abbrev pub rowIn : ℕ → List ℕ → ℕ → ℕ → Bool
+rowIn k ms b j = inBucket k b (getD ms j 0)
 
--- hs has the last name of each bucket, and each name the last one before it
+-- hs has the row of each bucket's last name, and each name that of the last one before it; row 0 is no name's, and stands for none
 pub record Index (hs ms : List ℕ) : Type 0 where
   pub some : 0 < length hs
   pub few : length hs ≤ 65536
   pub short : length ms ≤ 65536
-  pub heads : (b : ℕ) → b < length hs → getD hs b 0 ≡ lastIn (length hs) ms b (length ms)
+  pub heads : (b : ℕ) → b < length hs → getD hs b 0 ≡ lastPassing (rowIn (length hs) ms b) (length ms)
   pub links : (j : ℕ) → j < length ms → isName (getD ms j 0) ≡ true
-      → linkIn (getD ms j 0) ≡ lastIn (length hs) ms (bucketOf (length hs) (hashIn (getD ms j 0))) j
+      → linkIn (getD ms j 0) ≡ lastPassing (rowIn (length hs) ms (bucketOf (length hs) (hashIn (getD ms j 0)))) j
 
 -- ---- the search for a name
 

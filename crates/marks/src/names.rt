@@ -87,7 +87,8 @@ pub fn name(text: &[u8], heads: &[u16], marks: &[u64], object: usize, at: usize)
 pub fn push(heads: &mut [u16], marks: &mut [u64], row: usize, at: usize, end: usize, hash: usize)
     requires { ⌜ Index (now heads) (now marks) × Fresh (now marks) row × (row < length (now marks)) ⌝ }
     requires { ⌜ (at + 2 ≤ end) × (end ≤ 65536) × (hash < 65536) ⌝ }
-    ensures { λ _. ⌜ now (marks .exit) ≡ set (now (marks .entry)) row (nameMark at end (getD (now (heads .entry)) (bucketOf (length (now (heads .entry))) hash) 0) hash) ⌝ }
+    ensures { λ _. ⌜ now (marks .exit)
+        ≡ set (now (marks .entry)) row (nameMark at end (getD (now (heads .entry)) (bucketOf (length (now (heads .entry))) hash) 0) hash) ⌝ }
     ensures { λ _. ⌜ Index (now (heads .exit)) (now (marks .exit)) ⌝ }
 {
     let b = bucket(hash, heads.len());

@@ -1,11 +1,12 @@
--- Laws of tests, and of the equality of texts.
+-- Laws of tests, of tests that all characters of a text pass, and of the equality of texts.
 use Prim.Native.Nat.{ℕ}
-use mathlib.Core.Path.{_≡_, refl, sym, ap₂, _∙_}
+use mathlib.Core.Path.{_≡_, refl, sym, ap, ap₂, _∙_}
 use mathlib.Core.Logic.{_⊎_, inl, inr}
-use mathlib.Core.Bool.{Bool, true, false, not, cond, _&&_, _||_, false≢true, true≢false, and-eq-true-iff}
-use mathlib.Core.List.{List, [], _∷_}
+use mathlib.Core.Bool.{Bool, true, false, not, cond, _&&_, _||_, false≢true, true≢false, and-eq-true-iff, and-assoc}
+use mathlib.Core.List.{List, [], _∷_, _++_}
+use native.Mathlib.Omega.{arith}
 use lib.Dec.{T, eqb, eqb→eq, eqb-refl}
-use Rattle.model.specs.Text.{same}
+use Rattle.model.specs.Text.{all, same}
 
 pub true→T : (b : Bool) → b ≡ true → T b
 true→T true e = tt
@@ -31,8 +32,19 @@ pub not-false : (x : Bool) → not x ≡ false → x ≡ true
 not-false true e = refl
 not-false false e = absurd (true≢false e)
 
+-- where code asks `!f(x)`: r is what f returned, b the test that it promises
+pub fails : {r b : Bool} → r ≡ b → not r ≡ true → b ≡ false
+fails {r} e h = sym e ∙ not-true r h
+
+pub passes : {r b : Bool} → r ≡ b → not r ≡ false → b ≡ true
+passes {r} e h = sym e ∙ not-false r h
+
 pub clash : {A : Type 0} (x : Bool) → x ≡ true → x ≡ false → A
 clash x p q = absurd (true≢false (sym p ∙ q))
+
+-- a case that cannot be: equations that clash give 0 ≡ 1, mostly by `cc`
+pub never : {A : Type 0} → _≡_ {A = ℕ} 0 1 → A
+never z = absurd (omega arith)
 
 pub same-eq : (a b : List ℕ) → same a b ≡ true → a ≡ b
 same-eq [] [] e = refl
@@ -70,6 +82,16 @@ both P false f g = g refl
 pub and-ways : {P : Type 0} (a b : Bool) → a && b ≡ true → (a ≡ true → b ≡ true → P) → P
 and-ways a b t f = let h = and-eq-true-iff a b .0 t in f (h .0) (h .1)
 
+-- every character of both texts passes the test
+pub all-append : (p : ℕ → Bool) (s t : List ℕ) → all p (s ++ t) ≡ (all p s && all p t)
+all-append p [] t = refl
+all-append p (c ∷ s) t = ap (λ (b : Bool). p c && b) (all-append p s t) ∙ sym (and-assoc (p c) (all p s) (all p t))
+
+-- what passes one test passes another
+pub all-imp : (p q : ℕ → Bool) → ((c : ℕ) → p c ≡ true → q c ≡ true) → (s : List ℕ) → all p s ≡ true → all q s ≡ true
+all-imp p q f [] h = refl
+all-imp p q f (c ∷ s) h = and-ways (p c) (all p s) h (λ t u. rw (f c t) (all-imp p q f s u))
+
 -- by cases on a test
 pub by-test : {A : Type 0} (b : Bool) → (b ≡ true → A) → (b ≡ false → A) → A
 by-test true f g = f refl
@@ -78,4 +100,5 @@ by-test false f g = g refl
 -- two texts are the same in either order
 pub same-comm : (a b : List ℕ) → same a b ≡ same b a
 same-comm a b =
-    by-test (same a b) (λ t. t ∙ sym (same-of b a (sym (same-eq a b t)))) (λ t. t ∙ sym (false-of (same b a) (same a b) (λ u. same-of a b (sym (same-eq b a u))) t))
+    by-test (same a b) (λ t. t ∙ sym (same-of b a (sym (same-eq a b t))))
+    (λ f. f ∙ sym (false-of (same b a) (same a b) (λ t. same-of a b (sym (same-eq b a t))) f))

@@ -2,7 +2,7 @@
 use Prim.Native.Nat.{ℕ}
 use mathlib.Core.Path.{_≡_, refl, sym, _∙_}
 use mathlib.Core.Logic.{inl, inr}
-use mathlib.Core.Bool.{Bool, true, false, not, _&&_, false≢true, true≢false, Bool·beq, and-eq-true-iff}
+use mathlib.Core.Bool.{Bool, true, false, not, _||_, _&&_, false≢true, true≢false, Bool·beq}
 use mathlib.Core.List.{List, _∷_}
 use lib.ListN.{length}
 use Rattle.model.specs.Value.{Value, null, array, object, Values, vnil, Members, mnil, mcons, Among, Under, hasName, IsJson}
@@ -11,32 +11,17 @@ use Rattle.model.specs.Definition.{object-of, Fields, fnil, fcons, hasFi
 use Rattle.model.specs.Meeting.{IfArray, IfObject, meetsNamed, HasNames, Meets, FieldsMeet}
 use Rattle.model.specs.Carried.{NotCarried}
 use Rattle.model.specs.Subtype.{is, subtypeNamed, ofObjects, other, under, requires, requiresAll, subtype, subtypeFields}
-use Rattle.model.specs.Witness.{plain, apart, sample, kept, behind, avoiding, ownNames, fresh, others, beyondNamed, witness, witnessFields}
+use Rattle.model.specs.Witness.{plainValue, apart, sample, kept, behind, avoiding, ownNames, fresh, others, beyondNamed, witness, witnessFields}
 use Rattle.model.proofs.Basics.{and-ways, not-true, not-false, clash, false-of, both}
 use Rattle.model.proofs.Formed.{WellFormed, AreFields}
-use Rattle.model.proofs.Samples.{plain-meets, plain-json, kept-name, sample-meets, sample-json, member-json, member-meets, fresh-text}
-use Rattle.model.proofs.Samples.{fresh-under, other-formed, under-formed}
+use Rattle.model.proofs.Samples.{every, every-at, plain-meets, plain-json, kept-name, sample-meets, sample-json, member-json}
+use Rattle.model.proofs.Samples.{member-meets, fresh-text, fresh-under, other-formed, under-formed}
 
 -- v is a JSON value that meets a and fails b
 abbrev pub Works : Def → Def → Value → Type 0
 Works a b v = IsJson v × Meets a v × (¬ Meets b v)
 
 -- ---- the named types
-abbrev every : (Named → Bool) → Bool
-every p = p JSON && (p Schema && (p Float && (p Integer && (p String && (p Boolean && p DateTime)))))
-
-parts : (x y : Bool) → x && y ≡ true → (x ≡ true) × (y ≡ true)
-parts x y = and-eq-true-iff x y .0
-
-every-at : (p : Named → Bool) → every p ≡ true → (t : Named) → p t ≡ true
-every-at p h JSON = parts (p JSON) _ h .0
-every-at p h Schema = parts (p Schema) _ (parts (p JSON) _ h .1) .0
-every-at p h Float = parts (p Float) _ (parts (p Schema) _ (parts (p JSON) _ h .1) .1) .0
-every-at p h Integer = parts (p Integer) _ (parts (p Float) _ (parts (p Schema) _ (parts (p JSON) _ h .1) .1) .1) .0
-every-at p h String = parts (p String) _ (parts (p Integer) _ (parts (p Float) _ (parts (p Schema) _ (parts (p JSON) _ h .1) .1) .1) .1) .0
-every-at p h Boolean = parts (p Boolean) _ (parts (p String) _ (parts (p Integer) _ (parts (p Float) _ (parts (p Schema) _ (parts (p JSON) _ h .1) .1) .1) .1) .1) .0
-every-at p h DateTime = (parts (p Boolean) _ (parts (p String) _ (parts (p Integer) _ (parts (p Float) _ (parts (p Schema) _ (parts (p JSON) _ h .1) .1) .1) .1) .1) .1)
-
 beq-eq : (x y : Bool) → Bool·beq x y ≡ true → x ≡ y
 beq-eq true true e = refl
 beq-eq true false e = absurd (false≢true e)
@@ -53,23 +38,12 @@ apart-meets s t =
     (every-at (λ t. Bool·beq (meetsNamed t (apart s)) (subtypeNamed s t))
     (every-at (λ s. every (λ t. Bool·beq (meetsNamed t (apart s)) (subtypeNamed s t))) apart-test s) t)
 
+-- what no named type but JSON takes
 array-fails : (t : Named) → is t JSON ≡ false → meetsNamed t (array vnil) ≡ true → ⊥
-array-fails JSON e h = true≢false e
-array-fails Schema e h = false≢true h
-array-fails Float e h = false≢true h
-array-fails Integer e h = false≢true h
-array-fails String e h = false≢true h
-array-fails Boolean e h = false≢true h
-array-fails DateTime e h = false≢true h
+array-fails t e h = clash _ h (not-true _ (rw e at (every-at (λ t. is t JSON || not (meetsNamed t (array vnil))) refl t)))
 
 empty-fails : (t : Named) → is t JSON ≡ false → meetsNamed t (object mnil) ≡ true → ⊥
-empty-fails JSON e h = true≢false e
-empty-fails Schema e h = false≢true h
-empty-fails Float e h = false≢true h
-empty-fails Integer e h = false≢true h
-empty-fails String e h = false≢true h
-empty-fails Boolean e h = false≢true h
-empty-fails DateTime e h = false≢true h
+empty-fails t e h = clash _ h (not-true _ (rw e at (every-at (λ t. is t JSON || not (meetsNamed t (object mnil))) refl t)))
 
 -- an object whose first name is none of Array, Map and Object
 object-fails : (t : Named) → is t JSON ≡ false → (n : List ℕ) (w : Value) (ms : Members) → meetsNamed t (object (mcons (0x61 ∷ n) w ms)) ≡ true → ⊥
@@ -92,13 +66,7 @@ apart-json Boolean = plain-json Boolean
 apart-json DateTime = plain-json DateTime
 
 apart-self : (s : Named) → meetsNamed s (apart s) ≡ true
-apart-self JSON = refl
-apart-self Schema = refl
-apart-self Float = refl
-apart-self Integer = refl
-apart-self String = refl
-apart-self Boolean = refl
-apart-self DateTime = refl
+apart-self = every-at (λ s. meetsNamed s (apart s)) refl
 
 -- ---- the old definition is named
 beyond-named : (t : Named) (a : Def) → WellFormed a → subtype a (named t) ≡ false → Works a (named t) (beyondNamed a)
@@ -113,7 +81,7 @@ beyond-named t (object-of r o) k h =
     )
 
 -- ---- the old definition is of arrays
-plain-no-array : (P : Values → Type 0) (t : Named) → IfArray P (plain t) → ⊥
+plain-no-array : (P : Values → Type 0) (t : Named) → IfArray P (plainValue t) → ⊥
 plain-no-array P JSON h = h
 plain-no-array P Schema h = h
 plain-no-array P Float h = h
@@ -132,7 +100,7 @@ to-array q ih (map-of p) k h = (tt, λ n w u. absurd u, λ m. m)
 to-array q ih (object-of r o) k h = (sample-json (object-of r o) k, sample-meets (object-of r o) k, λ m. m)
 
 -- ---- the old definition is of objects
-plain-no-object : (P : Members → Type 0) (t : Named) → IfObject P (plain t) → ⊥
+plain-no-object : (P : Members → Type 0) (t : Named) → IfObject P (plainValue t) → ⊥
 plain-no-object P JSON h = h
 plain-no-object P Schema h = h
 plain-no-object P Float h = h

@@ -74,7 +74,8 @@ and-iff x y P Q f g = (
   λ h. and-eq-true-iff x y .1 (f .1 (h .0), g .1 (h .1)),
 )
 
-all-values-iff : (p : Value → Bool) (P : Value → Type 0) → ((w : Value) → (p w ≡ true) ↔ P w) → (vs : Values) → (allValues p vs ≡ true) ↔ ((w : Value) → Among w vs → P w)
+all-values-iff : (p : Value → Bool) (P : Value → Type 0) → ((w : Value) → (p w ≡ true) ↔ P w) → (vs : Values)
+    → (allValues p vs ≡ true) ↔ ((w : Value) → Among w vs → P w)
 all-values-iff p P f vnil = (λ e w i. absurd i, λ h. refl)
 all-values-iff p P f (vcons v vs) = (
   λ e w i.
@@ -114,22 +115,16 @@ mutual
       (λ ms. all-members-iff (λ n w. meets d w) (λ n w. Meets d w) (λ n w. meets-iff d w) ms) v
   meets-iff (object-of r o) v =
       if-object-iff (λ ms. hasNames r ms && (fieldsMeet r ms && fieldsMeet o ms)) (λ ms. HasNames r ms × FieldsMeet r ms × FieldsMeet o ms)
-      (λ ms. (
-        λ e.
-            let k = and-eq-true-iff (hasNames r ms) (fieldsMeet r ms && fieldsMeet o ms) .0 e in
-            let l = and-eq-true-iff (fieldsMeet r ms) (fieldsMeet o ms) .0 (k .1) in
-            (has-names-iff r ms .0 (k .0), fields-meet-iff r ms .0 (l .0), fields-meet-iff o ms .0 (l .1)),
-        λ h.
-            and-eq-true-iff (hasNames r ms) (fieldsMeet r ms && fieldsMeet o ms) .1 (
-              has-names-iff r ms .1 (h .0),
-              and-eq-true-iff (fieldsMeet r ms) (fieldsMeet o ms) .1 (fields-meet-iff r ms .1 (h .1), fields-meet-iff o ms .1 (h .2)),
-            ),
-      )) v
+      (λ ms.
+      let f = and-iff (fieldsMeet r ms) (fieldsMeet o ms) (FieldsMeet r ms) (FieldsMeet o ms) (fields-meet-iff r ms) (fields-meet-iff o ms) in
+      let g = and-iff (hasNames r ms) (fieldsMeet r ms && fieldsMeet o ms) (HasNames r ms) (FieldsMeet r ms × FieldsMeet o ms) (has-names-iff r ms) f in
+      (λ e. let k = g .0 e in (k .0, k .1 .0, k .1 .1), λ h. g .1 (h .0, (h .1, h .2)))) v
 
   fields-meet-iff : (fs : Fields) (ms : Members) → (fieldsMeet fs ms ≡ true) ↔ FieldsMeet fs ms
   fields-meet-iff fnil ms = (λ e. tt, λ h. refl)
   fields-meet-iff (fcons n d fs) ms =
-      let f = all-members-iff (λ m w. not (same n m) || meets d w) (λ m w. n ≡ m → Meets d w) (λ m w. named-iff n m (meets d w) (Meets d w) (meets-iff d w)) ms in
+      let f = all-members-iff (λ m w. not (same n m) || meets d w) (λ m w. n ≡ m → Meets d w)
+      (λ m w. named-iff n m (meets d w) (Meets d w) (meets-iff d w)) ms in
       and-iff (allMembers (λ m w. not (same n m) || meets d w) ms) (fieldsMeet fs ms) ((w : Value) → Under n w ms → Meets d w) (FieldsMeet fs ms)
       (λ e w u. f .0 e n w u refl, λ h. f .1 (λ m w u q. h w (rw q u)))
       (fields-meet-iff fs ms)

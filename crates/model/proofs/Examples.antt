@@ -68,7 +68,17 @@ number-example = record {
 
 -- {"a":[1,null],"b":"x"} but not {"a":null,"a":true}, nor a string with a surrogate
 one : IsNumber (text "1")
-one = record { minus = []; int = text "1"; fraction = []; exponent = []; spelled = refl; is-minus = inl refl; is-int = refl; is-fraction = refl; is-exponent = refl }
+one = record {
+  minus = [];
+  int = text "1";
+  fraction = [];
+  exponent = [];
+  spelled = refl;
+  is-minus = inl refl;
+  is-int = refl;
+  is-fraction = refl;
+  is-exponent = refl;
+}
 
 json : IsJson (object (mcons (text "a") (array (vcons (number (text "1")) (vcons null vnil))) (mcons (text "b") (string (text "x")) mnil)))
 json = (refl, refl, (one, (tt, tt)), (refl, refl, refl, tt))

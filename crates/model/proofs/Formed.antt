@@ -7,7 +7,7 @@ use mathlib.Core.List.{List}
 use Rattle.model.specs.Text.{text, same, isText}
 use Rattle.model.specs.Value.{Value, null, boolean, number, string, array, object, Members, mnil, mcons, hasName, IsJson, AreMembers}
 use Rattle.model.specs.Definition.{Def, named, array-of, map-of, object-of, Fields, fnil, fcons, hasField, disjoint, namedBy, isEmpty}
-use Rattle.model.specs.Definition.{mapped, added, joined, constructed, definitionOf, single, objectOf, part, fieldsOf, fieldsIn}
+use Rattle.model.specs.Definition.{mapped, added, joined, constructed, definitionOf, single, objectOf, fieldsUnder, fieldsOf, fieldsIn}
 use Rattle.model.proofs.Basics.{both}
 
 -- a definition that some JSON value is: names are texts, differ, and are not both required and optional
@@ -89,9 +89,9 @@ mutual
   object-formed (string s) j = tt
   object-formed (array vs) j = tt
   object-formed (object ms) j =
-      joined-formed (part (text "required") ms) (part (text "optional") ms) (part-formed ms j (text "required")) (part-formed ms j (text "optional"))
+      joined-formed (fieldsUnder (text "required") ms) (fieldsUnder (text "optional") ms) (part-formed ms j (text "required")) (part-formed ms j (text "optional"))
 
-  part-formed : (ms : Members) → AreMembers ms → (k : List ℕ) → FormedFields (part k ms)
+  part-formed : (ms : Members) → AreMembers ms → (k : List ℕ) → FormedFields (fieldsUnder k ms)
   part-formed mnil j k = tt
   part-formed (mcons n v ms) j k = both FormedFields (same k n) (λ e. fields-formed v (j .2)) (λ e. part-formed ms (j .3) k)
 

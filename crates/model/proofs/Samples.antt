@@ -3,37 +3,62 @@ use Prim.Native.Nat.{ℕ, zero, suc, _+_, _*_, _^_, _≤_, _<_}
 use native.Mathlib.Omega.{arith}
 use mathlib.Core.Path.{_≡_, refl, sym, ap, _∙_, subst}
 use mathlib.Core.Logic.{inl, inr}
-use mathlib.Core.Bool.{Bool, true, false, not, cond, _||_, false≢true, and-eq-true-iff, or-assoc}
+use mathlib.Core.Bool.{Bool, true, false, not, cond, _&&_, _||_, false≢true, and-eq-true-iff, or-assoc}
 use mathlib.Core.List.{List, [], _∷_, _++_}
 use lib.ListN.{length}
 use lib.Dec.{leb, eqb}
 use borrow.Author.Tests.{leb-true, leb-false, eqb-true, eqb-false, eq-eqb, ne-eqb}
 use native.Mathlib.Nat.{pow-suc}
 use Rattle.model.specs.Text.{text, same, isScalar, isText}
-use Rattle.model.specs.Value.{Value, object, Members, mnil, mcons, Under, hasName, IsJson, AreMembers}
+use Rattle.model.specs.Value.{Value, object, Members, mnil, mcons, Under, hasName, isFraction, IsNumber, IsJson, AreMembers}
 use Rattle.model.specs.Definition.{Named, JSON, Schema, Float, Integer, String, Boolean, DateTime, Def, named, array-of, map-of}
 use Rattle.model.specs.Definition.{object-of, Fields, fnil, fcons, hasField, disjoint}
 use Rattle.model.specs.Meeting.{meetsNamed, HasNames, Meets, FieldsMeet}
 use Rattle.model.specs.Subtype.{fieldOr, ofObjects, other, under}
-use Rattle.model.specs.Witness.{plain, sample, kept, following, behind, rarer, avoiding, names, ownNames, fresh, others, withMember}
+use Rattle.model.specs.Witness.{plainValue, sample, kept, following, behind, rarer, avoiding, names, ownNames, fresh, others, withMember}
 use Rattle.model.proofs.Basics.{same-eq, same-of, same-refl, or-true, or-false, or-left, or-right, not-true, clash, false-of, both}
 use Rattle.model.proofs.Basics.{by-test}
 use Rattle.model.proofs.Formed.{WellFormed, AreFields}
 
-pub plain-meets : (t : Named) → meetsNamed t (plain t) ≡ true
-plain-meets JSON = refl
-plain-meets Schema = refl
-plain-meets Float = refl
-plain-meets Integer = refl
-plain-meets String = refl
-plain-meets Boolean = refl
-plain-meets DateTime = refl
+-- a test that every named type passes, computed
+abbrev pub every : (Named → Bool) → Bool
+every p = p JSON && (p Schema && (p Float && (p Integer && (p String && (p Boolean && p DateTime)))))
 
-pub plain-json : (t : Named) → IsJson (plain t)
+parts : (x y : Bool) → x && y ≡ true → (x ≡ true) × (y ≡ true)
+parts x y = and-eq-true-iff x y .0
+
+pub every-at : (p : Named → Bool) → every p ≡ true → (t : Named) → p t ≡ true
+every-at p h JSON = parts (p JSON) _ h .0
+every-at p h Schema = parts (p Schema) _ (parts (p JSON) _ h .1) .0
+every-at p h Float = parts (p Float) _ (parts (p Schema) _ (parts (p JSON) _ h .1) .1) .0
+every-at p h Integer = parts (p Integer) _ (parts (p Float) _ (parts (p Schema) _ (parts (p JSON) _ h .1) .1) .1) .0
+every-at p h String = parts (p String) _ (parts (p Integer) _ (parts (p Float) _ (parts (p Schema) _ (parts (p JSON) _ h .1) .1) .1) .1) .0
+every-at p h Boolean =
+    parts (p Boolean) _ (parts (p String) _ (parts (p Integer) _ (parts (p Float) _ (parts (p Schema) _ (parts (p JSON) _ h .1) .1) .1) .1) .1) .0
+every-at p h DateTime =
+    (parts (p Boolean) _ (parts (p String) _ (parts (p Integer) _ (parts (p Float) _ (parts (p Schema) _ (parts (p JSON) _ h .1) .1) .1) .1) .1) .1)
+
+pub plain-meets : (t : Named) → meetsNamed t (plainValue t) ≡ true
+plain-meets = every-at (λ t. meetsNamed t (plainValue t)) refl
+
+zero-number : (s f : List ℕ) → s ≡ text "0" ++ (f ++ []) → isFraction f ≡ true → IsNumber s
+zero-number s f e h = record {
+  minus = [];
+  int = text "0";
+  fraction = f;
+  exponent = [];
+  spelled = e;
+  is-minus = inl refl;
+  is-int = refl;
+  is-fraction = h;
+  is-exponent = refl;
+}
+
+pub plain-json : (t : Named) → IsJson (plainValue t)
 plain-json JSON = tt
 plain-json Schema = refl
-plain-json Float = record { minus = []; int = text "0"; fraction = text ".5"; exponent = []; spelled = refl; is-minus = inl refl; is-int = refl; is-fraction = refl; is-exponent = refl }
-plain-json Integer = record { minus = []; int = text "0"; fraction = []; exponent = []; spelled = refl; is-minus = inl refl; is-int = refl; is-fraction = refl; is-exponent = refl }
+plain-json Float = zero-number (text "0.5") (text ".5") refl refl
+plain-json Integer = zero-number (text "0") [] refl refl
 plain-json String = refl
 plain-json Boolean = tt
 plain-json DateTime = refl
@@ -239,7 +264,8 @@ pub half : (ns : List (List ℕ)) → 2 * length (behind (rarer ns) ns) ≤ leng
 half ns =
     let x : ℕ = length (behind 0x61 ns) in
     let y : ℕ = length (behind 0x62 ns) in
-    both (λ c. 2 * length (behind c ns) ≤ length ns) (leb x y) (λ t. omega (arith, letters ns, leb-true x y t)) (λ f. omega (arith, letters ns, leb-false x y f))
+    both (λ c. 2 * length (behind c ns) ≤ length ns) (leb x y) (λ t. omega (arith, letters ns, leb-true x y t))
+    (λ f. omega (arith, letters ns, leb-false x y f))
 
 avoided : (k : ℕ) (ns : List (List ℕ)) → length ns ≤ k → isOne (avoiding k ns) ns ≡ false
 avoided zero [] h = refl

@@ -94,12 +94,12 @@ abbrev mutual
   objectOf (number s) = none
   objectOf (string s) = none
   objectOf (array vs) = none
-  objectOf (object ms) = joined (part (text "required") ms) (part (text "optional") ms)
+  objectOf (object ms) = joined (fieldsUnder (text "required") ms) (fieldsUnder (text "optional") ms)
 
   -- the fields under "required" or "optional": "absent has no names"
-  pub part : List ℕ → Members → Option Fields
-  part k mnil = some fnil
-  part k (mcons n v ms) = cond (same k n) (fieldsOf v) (part k ms)
+  pub fieldsUnder : List ℕ → Members → Option Fields
+  fieldsUnder k mnil = some fnil
+  fieldsUnder k (mcons n v ms) = cond (same k n) (fieldsOf v) (fieldsUnder k ms)
 
   -- "objects with a definition under each name"
   pub fieldsOf : Value → Option Fields

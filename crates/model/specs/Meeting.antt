@@ -72,7 +72,8 @@ abbrev pub HasNames : Fields → Members → Type 0
 HasNames fnil ms = Unit
 HasNames (fcons n d fs) ms = (hasName n ms ≡ true) × HasNames fs ms
 
--- "Array: when it is a list of values, perhaps empty, that all meet"; "Map: .. whose values all meet"; "Object: .. every name of "required", and under each name of "required" or "optional" that it has stands a value that meets the definition there"
+-- "Array: when it is a list of values, perhaps empty, that all meet"; "Map: .. whose values all meet";
+-- "Object: .. every name of "required", and under each name of "required" or "optional" that it has stands a value that meets the definition there"
 abbrev mutual
   pub Meets : Def → Value → Type 0
   Meets (named t) v = meetsNamed t v ≡ true

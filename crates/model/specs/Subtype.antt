@@ -1,4 +1,5 @@
--- For private contracts: the decision of Compare on definitions. That it is right is `proofs/Theorem.antt`, which speaks of values (01, demand 3; 01's term is carried).
+-- For private contracts: the decision of Compare on definitions. That it is right is `proofs/Theorem.antt`,
+-- which speaks of values (01, demand 3; 01's term is carried).
 use Prim.Native.Nat.{ℕ}
 use mathlib.Core.Bool.{Bool, true, false, cond, _&&_, _||_}
 use mathlib.Core.List.{List}

@@ -1,4 +1,6 @@
--- JSON values (01, "Text"): "null, false, true, a number as spelled, a string of Unicode scalar values, a list of values, or a list of members whose names differ. Space and escapes are no part of it."
+-- JSON values (01, "Text"):
+-- "null, false, true, a number as spelled, a string of Unicode scalar values, a list of values, or a list of members whose names differ."
+-- "Space and escapes are no part of it."
 use Prim.Native.Nat.{ℕ}
 use mathlib.Core.Path.{_≡_}
 use mathlib.Core.Logic.{_⊎_}

@@ -1,8 +1,9 @@
--- For the theorem of Compare, and the document of its sister (02, L1): a value that meets the new definition and fails the old one, where the new is not carried to the old.
--- That it does is proofs/Complete.antt.
+-- For the theorem of Compare, and the document of its sister (02, L1): a value that meets the new definition and fails the old one,
+-- where the new is not carried to the old. That it does is proofs/Complete.antt.
 -- Its size: each required field of the new definition gives at most one member, and each Object or Map on the way to what fails one more.
 -- That one's name is from the old definition, or is of few letters: at most 13 where the new definition has fewer than 4,096 names.
--- So it takes at most three times the bytes of the new schema and once those of the old one, and one bracket more than the new schema: counterexample/proofs/Shown.antt.
+-- So it takes at most three times the bytes of the new schema and once those of the old one, and one bracket more than the new schema:
+-- counterexample/proofs/Shown.antt.
 use Prim.Native.Nat.{ℕ, zero, suc}
 use mathlib.Core.Bool.{Bool, true, false, not, cond, _&&_}
 use mathlib.Core.List.{List, [], _∷_, _++_}
@@ -15,29 +16,29 @@ use Rattle.model.specs.Definition.{object-of, Fields, fnil, fcons}
 use Rattle.model.specs.Subtype.{ofObjects, other, under, requires, subtype}
 
 -- a value of each named type that is neither array nor object
-abbrev pub plain : Named → Value
-plain JSON = null
-plain Schema = string (text "JSON")
-plain Float = number (text "0.5")
-plain Integer = number (text "0")
-plain String = string []
-plain Boolean = boolean true
-plain DateTime = string (text "2000-01-01T00:00:00Z")
+abbrev pub plainValue : Named → Value
+plainValue JSON = null
+plainValue Schema = string (text "JSON")
+plainValue Float = number (text "0.5")
+plainValue Integer = number (text "0")
+plainValue String = string []
+plainValue Boolean = boolean true
+plainValue DateTime = string (text "2000-01-01T00:00:00Z")
 
 -- a value of each named type that meets only the named types that take all of it
 abbrev pub apart : Named → Value
-apart JSON = plain JSON
+apart JSON = plainValue JSON
 apart Schema = object (mcons (text "Array") (string (text "JSON")) mnil)
-apart Float = plain Float
-apart Integer = plain Integer
-apart String = plain String
-apart Boolean = plain Boolean
-apart DateTime = plain DateTime
+apart Float = plainValue Float
+apart Integer = plainValue Integer
+apart String = plainValue String
+apart Boolean = plainValue Boolean
+apart DateTime = plainValue DateTime
 
 -- a value of every definition: an object has the required members alone, of which `kept p` has those whose names pass p
 abbrev mutual
   pub sample : Def → Value
-  sample (named t) = plain t
+  sample (named t) = plainValue t
   sample (array-of d) = array vnil
   sample (map-of d) = object mnil
   sample (object-of r o) = object (kept (λ m. true) r)
@@ -118,7 +119,13 @@ beyondNamed (object-of r o) = withMember (object-of r o) (fresh (object-of r o))
 abbrev mutual
   pub witness : Def → Def → Value
   witness a (named t) = beyondNamed a
-  witness a (array-of q) = elim a [ named s ↦ plain s | array-of p ↦ array (vcons (witness p q) vnil) | map-of p ↦ object mnil | object-of r o ↦ sample (object-of r o) ]
+  witness a (array-of q) =
+      elim a [
+        | named s ↦ plainValue s
+        | array-of p ↦ array (vcons (witness p q) vnil)
+        | map-of p ↦ object mnil
+        | object-of r o ↦ sample (object-of r o)
+      ]
   witness a (map-of q) = cond (ofObjects a) (withMember a (fresh a) (witness (other a) q)) (sample a)
   witness a (object-of r o) = cond (ofObjects a) (witnessFields true a r (witnessFields false a o (sample a))) (sample a)
 

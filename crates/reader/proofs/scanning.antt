@@ -1,4 +1,11 @@
+pub mod Arrays
 pub mod Closing
-pub mod Laws
 pub mod Leaves
+pub mod Lists
+pub mod Measures
+pub mod Members
+pub mod Objects
 pub mod Outcomes
+pub mod Slices
+pub mod Told
+pub mod Values

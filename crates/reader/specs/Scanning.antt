@@ -1,4 +1,4 @@
--- For private contracts: what the two passes are given, and what they answer.
+-- For private contracts: what the first pass is given, and what it answers.
 use Prim.Native.Nat.{ℕ, _+_, _*_, _≤_, _<_}
 use mathlib.Core.Path.{_≡_}
 use mathlib.Core.Bool.{false}

@@ -1,4 +1,4 @@
--- For private contracts: what the walkers over rows are given, and what they answer.
+-- For private contracts: the value under a name in an object, and its row.
 use Prim.Native.Nat.{ℕ, _<_}
 use mathlib.Core.Bool.{cond}
 use mathlib.Core.Option.{Option, none, some}
@@ -15,11 +15,11 @@ abbrev pub lookup : List ℕ → List ℕ → Members → Option Node
 lookup s k no-member = none
 lookup s k (member f e n ms) = cond (same k (nameOf s f e)) (some n) (lookup s k ms)
 
--- ---- looking a name up: the row of the value under it, and 0, the top row, where there is none
-
+-- the row that stands for it; 0, the top row, stands for none
 abbrev pub Agrees : List ℕ → ℕ → Option Node → Type 0
 Agrees t r none = r ≡ 0
 Agrees t r (some n) = (0 < r) × Holds t r n
 
+-- v is the row of the value under the name `key` in the object at row r
 pub record Finds (s t : List ℕ) (r : ℕ) (key : List ℕ) (v : ℕ) : Type 0 where
   pub tells : (o : ObjectRow s t r) → Agrees t v (lookup s key (o .members))

@@ -1,13 +1,13 @@
 -- For private contracts: the names of an object by the hash of their characters, and what stands under each of them in another object.
 use Prim.Native.Nat.{ℕ, zero, suc, _/_, _≤_, _<_}
 use mathlib.Core.Path.{_≡_}
-use mathlib.Core.Bool.{Bool, cond}
+use mathlib.Core.Bool.{Bool, false, cond}
 use mathlib.Core.List.{List, []}
 use lib.ListN.{length, getD}
 use lib.Dec.{eqb}
 use Rattle.model.specs.Text.{same}
 use Rattle.tokens.specs.Spelling.{IsQuoted}
-use Rattle.chars.specs.Hashing.{hashOf}
+use Rattle.chars.specs.Hashing.{hashOf, lastPassing}
 use Rattle.syntax.specs.Tree.{Members, no-member, member}
 use Rattle.syntax.specs.Rows.{countMembers}
 use Rattle.syntax.specs.Grammar.{nameOf}
@@ -51,10 +51,14 @@ pub record Buckets (s : List ℕ) (f b : ℕ) : Type 0 where
   pub small : b < bucketCount
   pub tells : (e : ℕ) → IsQuoted s f e → b ≡ bucketOf (nameOf s f e)
 
--- of names in the buckets f, the place, counted from 1, of the last below n in the bucket b; 0 for none
-unfoldable pub lastIn : (ℕ → ℕ) → ℕ → ℕ → ℕ
-lastIn f b zero = 0
-lastIn f b (suc n) = let r = lastIn f b n in cond (eqb (f n) b) (suc n) r
+-- of names in the buckets f, whether the one before k lies in the bucket b: the index counts names from 1
+abbrev pub inBucket : (ℕ → ℕ) → ℕ → ℕ → Bool
+inBucket f b zero = false
+inBucket f b (suc j) = eqb (f j) b
+
+-- the last of the first n that does, counted from 1; 0 for none
+abbrev pub lastIn : (ℕ → ℕ) → ℕ → ℕ → ℕ
+lastIn f b n = lastPassing (inBucket f b) (suc n)
 
 -- of the first n names; hs has the last name of each bucket, ls the links
 pub record Indexed (s hs ls fs es : List ℕ) (n : ℕ) : Type 0 where

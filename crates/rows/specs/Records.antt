@@ -1,4 +1,4 @@
--- For private contracts: what the walkers over rows are given, and what they answer.
+-- For private contracts: a row of a table, as the code reads it, and the values that stand at rows.
 use Prim.Native.Nat.{ℕ, _+_, _*_, _≤_, _<_}
 use mathlib.Core.Path.{_≡_}
 use mathlib.Core.List.{List}
@@ -7,8 +7,6 @@ use Rattle.syntax.specs.Tree.{Node, object, Members, no-member}
 use Rattle.syntax.specs.Rows.{rowWords}
 use Rattle.syntax.specs.Holding.{word, Holds, Placed}
 use Rattle.rows.specs.declared.records.Record.{Record}
-
--- ---- rows
 
 -- a row lies in the table, and so do the rows of its subtree
 pub record InTable (t : List ℕ) (r : ℕ) : Type 0 where

@@ -28,9 +28,7 @@ pub fn find(text: &[u8], table: &[u32], object: usize, key: &[u8]) -> usize
     let mut row = object + 1;
     while left > 0 {
         let name = row_at(table, row);
-        let from = name.first as usize + 1;
-        let to = name.end as usize - 1;
-        if same_name(key, &text[from..to]) {
+        if same_name(key, between(text, name.first, name.end)) {
             return row + 1;
         }
         row = row_at(table, row + 1).next;

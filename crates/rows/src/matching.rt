@@ -1,4 +1,5 @@
 // What stands in one object under each name of another. The other's names are indexed by the hash of their characters, so that the time is linear in both.
+use crate::finding::between;
 use crate::records::row_at;
 use chars::Hashed;
 use chars::hashed_end;
@@ -90,8 +91,8 @@ fn settle(same: bool, row: usize, found: usize) -> usize
 // A member with the name from `first` to `end` of the first text, and its value at `row`: found for each indexed name that is the same and has none yet.
 fn fill(
     text1: &[u8],
-    first: usize,
-    end: usize,
+    first: u32,
+    end: u32,
     row: usize,
     text2: &[u8],
     heads: &[u16; BUCKETS],
@@ -103,16 +104,14 @@ fn fill(
     requires { ⌜ IsQuoted (now text1) first end ⌝ }
     requires { ⌜ HasIndex (now text2) (now heads) (now links) (now firsts) (now ends) ⌝ }
     requires { ⌜ length (now found) ≡ mostNames ⌝ }
-    ensures { λ _. ⌜ Fills (now (text2 .entry)) (now (heads .entry)) (now (links .entry)) (now (firsts .entry)) (now (ends .entry)) (nameOf (now (text1 .entry)) first end) row (now (found .entry)) (now (found .exit)) ⌝ }
+    ensures { λ _. ⌜ Fills (now (text2 .entry)) (now (heads .entry)) (now (links .entry)) (now (firsts .entry)) (now (ends .entry))
+        (nameOf (now (text1 .entry)) first end) row (now (found .entry)) (now (found .exit)) ⌝ }
 {
-    let from = first + 1;
-    let to = end - 1;
-    let mut k = heads[bucket(text1, first)] as usize;
+    let key = between(text1, first, end);
+    let mut k = heads[bucket(text1, first as usize)] as usize;
     while k > 0 {
         let j = k - 1;
-        let start = firsts[j] as usize + 1;
-        let stop = ends[j] as usize - 1;
-        let same = same_name(&text2[start..stop], &text1[from..to]);
+        let same = same_name(between(text2, firsts[j], ends[j]), key);
         found[j] = settle(same, row, found[j]);
         k = links[j] as usize;
     }
@@ -133,18 +132,17 @@ fn fill_all(
     requires { ⌜ ObjectRow (now text1) (now table1) object ⌝ }
     requires { ⌜ HasIndex (now text2) (now heads) (now links) (now firsts) (now ends) ⌝ }
     requires { ⌜ length (now found) ≡ mostNames ⌝ }
-    ensures { λ _. ⌜ FillsAll (now (text1 .entry)) (now (table1 .entry)) object (now (text2 .entry)) (now (heads .entry)) (now (links .entry)) (now (firsts .entry)) (now (ends .entry)) (now (found .entry)) (now (found .exit)) ⌝ }
+    ensures { λ _. ⌜ FillsAll (now (text1 .entry)) (now (table1 .entry)) object
+        (now (text2 .entry)) (now (heads .entry)) (now (links .entry)) (now (firsts .entry)) (now (ends .entry)) (now (found .entry)) (now (found .exit)) ⌝ }
 {
     let mut left = row_at(table1, object).children;
     let mut row = object + 1;
     while left > 0 {
         let name = row_at(table1, row);
-        let first = name.first as usize;
-        let end = name.end as usize;
         fill(
             text1,
-            first,
-            end,
+            name.first,
+            name.end,
             row + 1,
             text2,
             heads,
@@ -172,7 +170,8 @@ pub fn match_names(
     requires { ⌜ ObjectRow (now text1) (now table1) object ⌝ }
     requires { ⌜ ObjectRow (now text2) (now table2) part ⌝ }
     requires { ⌜ (wordOf (now table2) part 3 ≤ mostNames) × (length (now found) ≡ mostNames) ⌝ }
-    ensures { λ _. ⌜ Matches (now (text1 .entry)) (now (table1 .entry)) object (now (text2 .entry)) (now (table2 .entry)) part (now (found .entry)) (now (found .exit)) ⌝ }
+    ensures { λ _. ⌜ Matches (now (text1 .entry)) (now (table1 .entry)) object (now (text2 .entry)) (now (table2 .entry)) part
+        (now (found .entry)) (now (found .exit)) ⌝ }
 {
     let mut heads = [0u16; BUCKETS];
     let mut links = [0u16; MOST_NAMES];

@@ -8,7 +8,7 @@ use lib.ListN.{length}
 use Rattle.model.specs.Text.{same}
 use Rattle.model.specs.Value.{Value, null, object, Members}
 use Rattle.model.specs.Definition.{Named, Def}
-use Rattle.model.specs.Witness.{plain as plainValue, apart, sample, kept, counted, names, ownNames, fresh, others, beyondNamed}
+use Rattle.model.specs.Witness.{plainValue as plainValue, apart, sample, kept, counted, names, ownNames, fresh, others, beyondNamed}
 use Rattle.tokens.specs.Spelling.{IsQuoted}
 use Rattle.syntax.specs.Grammar.{nameOf}
 use Rattle.syntax.specs.Holding.{word}

@@ -8,6 +8,7 @@ use chars::peek;
 use definitions::Generic;
 use definitions::generic_at;
 use definitions::type_at;
+use rows::between;
 use rows::find;
 use rows::row_at;
 ghost use mathlib.Core.Path.{_≡_};
@@ -54,9 +55,7 @@ fn count_fields(text: &[u8], table: &[u32], fields: usize, letters: &[u8]) -> us
     let mut n = 0;
     while left > 0 {
         let name = row_at(table, row);
-        let from = name.first as usize + 1;
-        let to = name.end as usize - 1;
-        if begins(letters, &text[from..to]) {
+        if begins(letters, between(text, name.first, name.end)) {
             n += 1;
         }
         row = row_at(table, row + 1).next;

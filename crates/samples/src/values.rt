@@ -6,6 +6,7 @@ use chars::same_name;
 use definitions::Generic;
 use definitions::generic_at;
 use definitions::type_at;
+use rows::between;
 use rows::find;
 use rows::row_at;
 ghost use lib.ListN.{length};
@@ -63,9 +64,7 @@ pub fn write_fields(
     let mut n = 0;
     while left > 0 {
         let name = row_at(table, row);
-        let from = name.first as usize + 1;
-        let to = name.end as usize - 1;
-        if all || !same_name(key, &text[from..to]) {
+        if all || !same_name(key, between(text, name.first, name.end)) {
             n += write_field(text, table, row, &mut out[n..]);
         }
         row = row_at(table, row + 1).next;

@@ -8,7 +8,7 @@ use lib.ListN.{replicate}
 use lib.Dec.{eqb}
 use Rattle.model.specs.Text.{text}
 use Rattle.model.specs.Definition.{JSON, Schema, Float, Integer, String, Boolean, DateTime}
-use Rattle.chars.specs.Bytes.{codeOf, digit, named, lowest, highest, sixBits}
+use Rattle.chars.specs.Bytes.{codeOf, digit, escapeOf, lowest, highest, sixBits}
 use Rattle.tokens.specs.Parse.{Parse, refused, parsed, unexpected}
 use Rattle.chars.specs.Runs.{runFrom, run}
 use Rattle.tokens.specs.Space.{isSpace}
@@ -43,7 +43,7 @@ definedBy s (parsed n e) = definitionAt s n
 
 -- the definition of a schema; who unfolds this unfolds all that reading computes with
 defines : List ℕ → Defined Located
-unfolding codeOf digit named lowest highest sixBits unexpected runFrom run isSpace stopAt wrongAt hexPair partnerAt restAt unicodeAt escapeAt twoAt threeAt fourAt charFrom charAt stringFrom stringAt charsFrom charsAt wholeEnd signEnd powerAt exponentAt fractionAt unsignedAt numberAt firstOf wordAt afterItem itemsFrom itemsAt listAt repeated nameAt afterName valueAt alone readText
+unfolding codeOf digit escapeOf lowest highest sixBits unexpected runFrom run isSpace stopAt wrongAt hexPair partnerAt restAt unicodeAt escapeAt twoAt threeAt fourAt charFrom charAt stringFrom stringAt charsFrom charsAt wholeEnd signEnd powerAt exponentAt fractionAt unsignedAt numberAt firstOf wordAt afterItem itemsFrom itemsAt listAt repeated nameAt afterName valueAt alone readText
 defines s = definedBy s (readSchema s)
 
 -- Check of a document and a schema, with tables of so many words

@@ -1,4 +1,5 @@
 -- What the crates above cite.
-pub use Rattle.schema.proofs.checking.Zero.{check-zero}
+
+-- the first mismatch: which codes it has, and where there is none
 pub use Rattle.schema.proofs.judging.Codes.{mismatch-codes}
 pub use Rattle.schema.proofs.judging.Meeting.{meets-nothing, nothing-meets}

@@ -1,7 +1,10 @@
 pub mod Codes
+pub mod Fields
 pub mod First
 pub mod OtherKinds
 pub mod Laws
 pub mod Looking
 pub mod Meeting
 pub mod Order
+pub mod TypeNames
+pub mod Values

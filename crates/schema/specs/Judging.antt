@@ -1,5 +1,6 @@
 -- The first mismatch of a value with a definition, with places (01, "Definitions": "First misfit"). 01's term is misfit.
 use Prim.Native.Nat.{ℕ, _+_}
+use mathlib.Core.Path.{_≡_}
 use mathlib.Core.Bool.{Bool, true, false, cond}
 use mathlib.Core.Option.{Option, none, some}
 use mathlib.Core.List.{List}
@@ -11,13 +12,12 @@ use Rattle.tokens.specs.Tokens.{Kind, Null, False, True, Whole, Fractional, Quo
 use Rattle.syntax.specs.Tree.{Node, scalar, array, object, Nodes, none as no-node, more, Members, no-member, member, placeOf}
 use Rattle.syntax.specs.Grammar.{nameOf}
 use Rattle.syntax.specs.Spelling.{valueOf}
+use Rattle.syntax.specs.Holding.{word}
+use Rattle.rows.specs.Records.{InTable, Rowed, ObjectRow, PartRow}
+use Rattle.rows.specs.Finding.{lookup, Finds}
 use Rattle.definitions.specs.Definitions.{Located, named-at, array-at, map-at, object-at, LocatedFields, no-field, field, fine, definitionAt}
 use Rattle.definitions.specs.Definitions.{fieldsAt}
 use Rattle.schema.specs.declared.judging.Mismatch.{Mismatch}
-use mathlib.Core.Path.{_≡_}
-use Rattle.syntax.specs.Holding.{word}
-use Rattle.rows.specs.Finding.{lookup, Finds}
-use Rattle.rows.specs.Records.{InTable, Rowed, ObjectRow, PartRow}
 
 -- code, place in the document, other in the schema
 abbrev pub mismatch : ℕ → ℕ → ℕ → Mismatch
@@ -143,7 +143,7 @@ abbrev mutual
   fieldsMismatch s absent no-field ms = nothing
   fieldsMismatch s absent (field q n d fs) ms = orElse (judged (lookup s n ms) (absent q) (λ m. mismatchAt s d m)) (fieldsMismatch s absent fs ms)
 
--- ---- mismatches
+-- ---- for private contracts: what the walkers over a value and a definition are given, and what they answer
 
 -- a value at row r₁ of the document's table, and a definition at row r₂ of the schema's
 pub record Judgeable (s₁ s₂ t₁ t₂ : List ℕ) (r₁ r₂ : ℕ) : Type 0 where
@@ -205,4 +205,5 @@ pub record FieldJudgeable (s₁ s₂ t₁ t₂ : List ℕ) (r₁ v r₂ : ℕ) :
 
 pub record FieldJudged (s₁ s₂ t₁ t₂ : List ℕ) (r₁ v r₂ : ℕ) (required : Bool) (m : Mismatch) : Type 0 where
   pub tells : (j : FieldJudgeable s₁ s₂ t₁ t₂ r₁ v r₂)
-      → m ≡ judged (lookup s₁ (nameOf s₂ (word t₂ r₂ 1) (word t₂ r₂ 2)) (j .document .members)) (absence required (j .document .first) (word t₂ r₂ 1)) (mismatchAt s₁ (j .definition))
+      → m ≡ judged (lookup s₁ (nameOf s₂ (word t₂ r₂ 1) (word t₂ r₂ 2)) (j .document .members))
+      (absence required (j .document .first) (word t₂ r₂ 1)) (mismatchAt s₁ (j .definition))

@@ -8,14 +8,15 @@ use definitions::named_type;
 use definitions::takes;
 use rows::FEW_NAMES;
 use rows::MOST_NAMES;
+use rows::between;
 use rows::find;
 use rows::match_names;
 use rows::row_at;
 use rows::wide;
 ghost use mathlib.Core.Path.{_≡_};
 ghost use Rattle.syntax.specs.Holding.{word as wordOf};
-ghost use Rattle.schema.specs.Judging.{mismatch};
 ghost use Rattle.rows.specs.Records.{Rowed};
+ghost use Rattle.schema.specs.Judging.{mismatch};
 ghost use Rattle.schema.specs.Judging.{Judgeable, Judged, JudgedDate, ArrayJudgeable, MapJudgeable, BodyJudgeable, FieldsJudgeable, FieldsJudged};
 ghost use Rattle.schema.specs.Judging.{FieldJudgeable, FieldJudged};
 
@@ -53,9 +54,7 @@ fn judge_date(document: &[u8], rows1: &[u32], at: usize, other: u32) -> Mismatch
     if value.kind != 6 {
         return Mismatch::at(20, value.first, other);
     }
-    let from = value.first as usize + 1;
-    let to = value.end as usize - 1;
-    if is_date(&document[from..to]) {
+    if is_date(between(document, value.first, value.end)) {
         return Mismatch::none();
     }
     Mismatch::at(22, value.first, other)
@@ -76,9 +75,7 @@ fn judge_named(
 {
     let value = row_at(rows1, at);
     let definition = row_at(rows2, by);
-    let from = definition.first as usize + 1;
-    let to = definition.end as usize - 1;
-    let name = named_type(&schema[from..to]);
+    let name = named_type(between(schema, definition.first, definition.end));
     let fits = takes(name, value.kind);
     match name {
         TypeName::DateTime => judge_date(document, rows1, at, definition.first),
@@ -113,9 +110,7 @@ pub fn judge(
         return judge_named(document, schema, rows1, rows2, at, by);
     }
     let name = row_at(rows2, by + 1);
-    let from = name.first as usize + 1;
-    let to = name.end as usize - 1;
-    match generic_name(&schema[from..to]) {
+    match generic_name(between(schema, name.first, name.end)) {
         Generic::Array => judge_array(document, schema, rows1, rows2, at, by),
         Generic::Map => judge_map(document, schema, rows1, rows2, at, by),
         _ => judge_object(document, schema, rows1, rows2, at, by),
@@ -232,9 +227,7 @@ fn judge_fields(
     let mut row = fields + 1;
     while left > 0 {
         let name = row_at(rows2, row);
-        let from = name.first as usize + 1;
-        let to = name.end as usize - 1;
-        let value = find(document, rows1, at, &schema[from..to]);
+        let value = find(document, rows1, at, between(schema, name.first, name.end));
         let found = judge_field(document, schema, rows1, rows2, at, value, row, required);
         if found.code != 0 {
             return found;

@@ -6,7 +6,7 @@ use mathlib.Core.Bool.{true}
 use lib.ListN.{replicate}
 use Rattle.model.specs.Text.{text}
 use Rattle.model.specs.Value.{null, number, boolean, string, vcons, vnil, mcons, mnil, array as list, object as record-of}
-use Rattle.chars.specs.Bytes.{codeOf, digit, named, lowest, highest, sixBits}
+use Rattle.chars.specs.Bytes.{codeOf, digit, escapeOf, lowest, highest, sixBits}
 use Rattle.tokens.specs.Parse.{Parse, refused, parsed, unexpected}
 use Rattle.chars.specs.Runs.{runFrom, run}
 use Rattle.tokens.specs.Space.{isSpace}
@@ -23,7 +23,9 @@ use Rattle.syntax.specs.Answer.{documentLimits, schemaLimits, readWithin
 
 -- a text within limits; who unfolds this unfolds all that reading computes with
 unfoldable pub within : ℕ → ℕ → List ℕ → Parse Node
-unfolding codeOf digit named lowest highest sixBits unexpected runFrom run isSpace stopAt wrongAt hexPair partnerAt restAt unicodeAt escapeAt twoAt threeAt fourAt charFrom charAt stringFrom stringAt charsFrom charsAt wholeEnd signEnd powerAt exponentAt fractionAt unsignedAt numberAt firstOf wordAt afterItem itemsFrom itemsAt listAt repeated nameAt afterName valueAt alone readText
+unfolding codeOf digit escapeOf lowest highest sixBits unexpected runFrom run isSpace stopAt wrongAt hexPair partnerAt restAt unicodeAt
+    escapeAt twoAt threeAt fourAt charFrom charAt stringFrom stringAt charsFrom charsAt wholeEnd signEnd powerAt exponentAt fractionAt
+    unsignedAt numberAt firstOf wordAt afterItem itemsFrom itemsAt listAt repeated nameAt afterName valueAt alone readText
 within bytes depth s = readText bytes depth s
 
 -- a document
@@ -69,8 +71,10 @@ strings = (refl, refl, refl, refl)
 nested : (read (text "[ ]") ≡ parsed (array 0 3 none) 3)
     × (read (text "{ }") ≡ parsed (object 0 3 no-member) 3)
     × (read (text "[[],{}]") ≡ parsed (array 0 7 (more (array 1 3 none) (more (object 4 6 no-member) none))) 7)
-    × (read (text "{\"a\":{\"a\":1},\"A\":2}") ≡ parsed (object 0 19 (member 1 4 (object 5 12 (member 6 9 (scalar Whole 10 11) no-member)) (member 13 16 (scalar Whole 17 18) no-member))) 19)
-    × (read (text "{ \"\" : [ 1 , 2 ] } ") ≡ parsed (object 0 18 (member 2 4 (array 7 16 (more (scalar Whole 9 10) (more (scalar Whole 13 14) none))) no-member)) 19)
+    × (read (text "{\"a\":{\"a\":1},\"A\":2}")
+    ≡ parsed (object 0 19 (member 1 4 (object 5 12 (member 6 9 (scalar Whole 10 11) no-member)) (member 13 16 (scalar Whole 17 18) no-member))) 19)
+    × (read (text "{ \"\" : [ 1 , 2 ] } ")
+    ≡ parsed (object 0 18 (member 2 4 (array 7 16 (more (scalar Whole 9 10) (more (scalar Whole 13 14) none))) no-member)) 19)
 unfolding within
 nested = (refl, refl, refl, refl, refl)
 
@@ -91,7 +95,8 @@ unfolding within
 deep = (refl, refl, refl)
 
 -- the value: space and escapes are no part of it, numbers are as spelled
-spelled : (valueOf (text " [-0, 1.50 ]") (array 1 12 (more (scalar Whole 2 4) (more (scalar Fractional 6 10) none))) ≡ list (vcons (number (text "-0")) (vcons (number (text "1.50")) vnil)))
+spelled : (valueOf (text " [-0, 1.50 ]") (array 1 12 (more (scalar Whole 2 4) (more (scalar Fractional 6 10) none)))
+    ≡ list (vcons (number (text "-0")) (vcons (number (text "1.50")) vnil)))
     × (valueOf (text "{\"\\u0061\":null}") (object 0 15 (member 1 9 (scalar Null 10 14) no-member)) ≡ record-of (mcons (text "a") null mnil))
     × (valueOf (text "\"\\ud83d\\uDE00\\n\"") (scalar Quoted 0 16) ≡ string (0x1F600 ∷ 0x0A ∷ []))
     × (valueOf (0x22 ∷ 0xE2 ∷ 0x82 ∷ 0xAC ∷ 0x22 ∷ []) (scalar Quoted 0 5) ≡ string (0x20AC ∷ []))

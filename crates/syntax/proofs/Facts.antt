@@ -1,12 +1,17 @@
 -- What the crates above cite.
-pub use Rattle.syntax.proofs.Holding.{holds-same, kind-same, kind-small}
+
+-- items with commas between, up to a closing byte
+pub use Rattle.syntax.proofs.Items.{Reads, byte-in, unexpected-both, list-empty, list-items, item-takes, items-refused, items-next}
+pub use Rattle.syntax.proofs.Items.{items-close, items-bad}
+-- values, names and members: which way each goes, and what it takes of the text
+pub use Rattle.syntax.proofs.Values.{first-leaf, first-opens, opens-object, element-reads, member-reads, value-leaf, value-array}
+pub use Rattle.syntax.proofs.Values.{value-object, value-deep-array, value-deep-object, value-takes, leaf-parsed, name-bare}
+pub use Rattle.syntax.proofs.Values.{name-stopped, name-again, name-new, name-parsed, name-takes, name-within, member-bare}
+pub use Rattle.syntax.proofs.Values.{member-value, member-parsed}
+-- a rule for whatever is read
 pub use Rattle.syntax.proofs.Induction.{Rule, read-begins, value-rule}
-pub use Rattle.syntax.proofs.Items.{Reads, byte-in, item-takes, items-bad, items-close, items-next, items-refused, list-empty}
-pub use Rattle.syntax.proofs.Items.{list-items, unexpected-both}
-pub use Rattle.syntax.proofs.Sizes.{count-add, count-few, countMembers-add, countMembers-few, size-pos, sizes-add, sizesMembers-add}
+-- rows: how many, which words, and the tree that they hold
+pub use Rattle.syntax.proofs.Sizes.{size-pos, count-few, countMembers-few, count-add, countMembers-add, sizes-add, sizesMembers-add}
 pub use Rattle.syntax.proofs.Sizes.{wordsAll-add, wordsMembers-add}
-pub use Rattle.syntax.proofs.Values.{element-reads, first-leaf, first-opens, leaf-parsed, member-bare, member-parsed, member-reads}
-pub use Rattle.syntax.proofs.Values.{member-value, name-again, name-bare, name-new, name-parsed, name-stopped, name-takes, name-within}
-pub use Rattle.syntax.proofs.Values.{opens-object, value-array, value-deep-array, value-deep-object, value-leaf, value-object}
-pub use Rattle.syntax.proofs.Values.{value-takes}
 pub use Rattle.syntax.proofs.rows.Laws.{stored}
+pub use Rattle.syntax.proofs.Holding.{holds-same, kind-same, kind-small}

@@ -1,4 +1,4 @@
--- A table that holds a tree: it holds no other, it has room for it, and what Read leaves behind holds the tree that was read.
+-- A table that holds a tree: it holds no other, and what Read leaves behind holds the tree that was read.
 use mathlib.Core.Path.{_≡_, refl, sym, ap, ap₂, _∙_}
 use mathlib.Core.List.{List, [], _∷_, _++_}
 use Prim.Native.Nat.{ℕ, suc, _+_, _*_, _≤_, _<_}
@@ -15,6 +15,7 @@ use Rattle.syntax.specs.Holding.{Row, Holds, HoldsAll, HoldsMembers}
 use Rattle.syntax.proofs.rows.Laws.{words-length}
 
 -- ---- the number of a kind
+
 -- scalars have no number of an array, an object or a name
 pub kind-small : (k : Kind) → kindNumber k < 7
 kind-small Null = omega arith
@@ -39,6 +40,7 @@ pub kind-same : (k l : Kind) → kindNumber k ≡ kindNumber l → k ≡ l
 kind-same k l e = sym (kind-back k) ∙ ap kindOf e ∙ kind-back l
 
 -- ---- one tree at most
+
 mutual
   pub holds-same : (t : List ℕ) (r : ℕ) (n m : Node) → Holds t r n → Holds t r m → n ≡ m
   holds-same t r (scalar k f e) (scalar l g i) h j = cc (kind-same k l (cc))
@@ -68,12 +70,8 @@ mutual
       let x : n ≡ m = holds-same t (r + 1) n m (h .1) (j .1) in
       cc (holdsMembers-same t (r + 1 + size n) ns ms (omega arith) (h .2) (rw (← x) at (j .2)))
 
-pub holds-room : (t : List ℕ) (r : ℕ) (n : Node) → Holds t r n → rowWords * (r + size n) ≤ length t
-holds-room t r (scalar k f e) h = h .room
-holds-room t r (array f e ns) h = h .0 .room
-holds-room t r (object f e ms) h = h .0 .room
-
 -- ---- the words of a tree
+
 -- the words ws stand at i
 abbrev pub Stand : List ℕ → ℕ → List ℕ → Type 0
 Stand t i ws = (j : ℕ) → j < length ws → getD t (i + j) 0 ≡ getD ws j 0
@@ -89,8 +87,14 @@ stand-right t i xs ys k e h j l =
 -- the words of a row, and others behind them
 module _ (t : List ℕ) (r k f e children rows : ℕ) (ws : List ℕ) (h : Stand t (rowWords * r) (row k f e children rows ++ ws)) where
   stand-row : rowWords * (r + rows) ≤ length t → Row t r k f e children rows
-  stand-row l =
-      record { kind = h 0 (omega arith); first = h 1 (omega arith); last = h 2 (omega arith); direct = h 3 (omega arith); subtree = h 4 (omega arith); room = l }
+  stand-row l = record {
+    kind = h 0 (omega arith);
+    first = h 1 (omega arith);
+    last = h 2 (omega arith);
+    direct = h 3 (omega arith);
+    subtree = h 4 (omega arith);
+    room = l;
+  }
 
   stand-behind : Stand t (rowWords * (r + 1)) ws
   stand-behind = stand-right t (rowWords * r) (row k f e children rows) ws (rowWords * (r + 1)) (omega arith) h

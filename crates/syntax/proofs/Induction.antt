@@ -14,12 +14,11 @@ use Rattle.tokens.specs.Tokens.{Kind}
 use Rattle.tokens.specs.Scalars.{firstOf, scalarAt}
 use Rattle.tokens.specs.Spelling.{IsQuoted}
 use Rattle.tokens.specs.declared.scalars.First.{First}
-use Rattle.tokens.specs.declared.scalars.First.the-variants.{Array, Object, Quote, Number, LetterN, LetterF, LetterT, Other}
-use Rattle.model.proofs.Basics.{both}
+use Rattle.model.proofs.Basics.{never, both}
 use Rattle.syntax.specs.Tree.{Node, scalar, array, object, Nodes, none, addNode, Members, no-member, addMember}
 use Rattle.syntax.specs.Grammar.{elementAt, arrayAt, nameOf, repeated, memberAt, objectAt, leafAt, valueBy, valueAt, alone, readText}
 use Rattle.syntax.proofs.Items.{then-both, list-keep}
-use Rattle.syntax.proofs.Values.{leaf-parsed, element-parsed, array-parsed, member-parsed, name-parsed, object-parsed, value-takes}
+use Rattle.syntax.proofs.Values.{by-ways, leaf-parsed, element-parsed, array-parsed, member-parsed, name-parsed, object-parsed, value-takes}
 
 -- ---- values
 
@@ -42,17 +41,10 @@ module _ {s : List ℕ} {P : Node → Type 0} {Q : Nodes → Type 0} {R : Member
   leaf-obeys i n e l h q = let x = leaf-parsed s q in rw (x .1) (r .leaf (x .0) i e l h (x .2))
 
   by-obeys : (a o : ℕ → Parse Node) (i : ℕ) → Obeys a i → Obeys o i → (f : First) → Obeys (valueBy f a o s) i
-  by-obeys a o i g h Array = g
-  by-obeys a o i g h Object = h
-  by-obeys a o i g h Quote = leaf-obeys i
-  by-obeys a o i g h Number = leaf-obeys i
-  by-obeys a o i g h LetterN = leaf-obeys i
-  by-obeys a o i g h LetterF = leaf-obeys i
-  by-obeys a o i g h LetterT = leaf-obeys i
-  by-obeys a o i g h Other = leaf-obeys i
+  by-obeys a o i g h f n e l m = by-ways (λ x. x ≡ parsed n e → P n) a o s i f (λ _. g n e l m) (λ _. h n e l m) (leaf-obeys i n e l m)
 
   deep-obeys : (i : ℕ) → Obeys (λ j. refused 7 j) i
-  deep-obeys i n e l h q = absurd (let z : _≡_ {A = ℕ} 0 1 = cc in omega arith)
+  deep-obeys i n e l h q = never (cc)
 
   module _ (v : ℕ → Parse Node) (each : (i : ℕ) (n : Node) (e : ℕ) → v i ≡ parsed n e → P n) where
     one-more : (before all : Nodes) (i e : ℕ) → Q before → elementAt v before i ≡ parsed all e → Q all
@@ -112,7 +104,7 @@ module _ (bytes depth : ℕ) (s : List ℕ) where
   pub read-begins : (n : Node) (e : ℕ) → readText bytes depth s ≡ parsed n e → (f : ℕ) × Begins bytes depth s n f × (e ≡ skip s f) × (length s ≤ e)
   read-begins n e =
       read-ways (λ o. o ≡ parsed n e → (f : ℕ) × Begins bytes depth s n f × (e ≡ skip s f) × (length s ≤ e))
-      (λ _ q. absurd (let z : _≡_ {A = ℕ} 0 1 = cc in omega arith))
-      (λ c p _ q. absurd (let z : _≡_ {A = ℕ} 0 1 = cc in omega arith))
-      (λ m f _ _ q. absurd (let z : _≡_ {A = ℕ} 0 1 = cc in omega arith))
+      (λ _ q. never (cc))
+      (λ c p _ q. never (cc))
+      (λ m f _ _ q. never (cc))
       (λ m f b l q. let x : m ≡ n = cc in let y : e ≡ skip s f = cc in (f, rw (← x) b, y, omega arith))

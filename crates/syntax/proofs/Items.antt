@@ -9,7 +9,7 @@ use borrow.Author.Tests.{eqb-true, eq-eqb, ne-eqb}
 use Rattle.chars.specs.Bytes.{byteAt}
 use Rattle.tokens.specs.Parse.{Parse, refused, parsed, then, unexpected}
 use Rattle.tokens.specs.Space.{isSpace, skip}
-use Rattle.model.proofs.Basics.{both}
+use Rattle.model.proofs.Basics.{never, both}
 use Rattle.chars.proofs.Facts.{in-text, run-from}
 use Rattle.tokens.proofs.Facts.{unexpected-ways}
 use Rattle.syntax.specs.Grammar.{afterItem, itemsFrom, itemsAt, listAt}
@@ -29,7 +29,7 @@ module _ {A B : Type 0} where
 
   pub then-parsed : (o : Parse A) (k : A → ℕ → Parse B) (b : B) (e : ℕ) → then o k ≡ parsed b e
       → (a : A) × (f : ℕ) × (o ≡ parsed a f) × (k a f ≡ parsed b e)
-  then-parsed (refused c p) k b e q = absurd (let z : _≡_ {A = ℕ} 0 1 = cc in omega arith)
+  then-parsed (refused c p) k b e q = never (cc)
   then-parsed (parsed a f) k b e q = (a, f, refl, q)
 
 -- ---- refusals
@@ -43,7 +43,7 @@ module _ {A : Type 0} (s : List ℕ) (i : ℕ) where
   unexpected-both P f = unexpected-ways P s i (λ l. f 3 i (omega arith)) (f 2 (length s) (omega arith))
 
   pub unexpected-no : (a : A) (e : ℕ) → unexpected s i ≡ parsed a e → ⊥
-  unexpected-no a e = unexpected-both (λ o. o ≡ parsed a e → ⊥) (λ c p _ q. let z : _≡_ {A = ℕ} 0 1 = cc in omega arith)
+  unexpected-no a e = unexpected-both (λ o. o ≡ parsed a e → ⊥) (λ c p _ q. never (cc))
 
 -- ---- items
 
@@ -72,8 +72,8 @@ byte-in s i b l q = in-text s i (omega arith)
 
 module _ {L : Type 0} (closing : ℕ) (s : List ℕ) (all : L) (j : ℕ) where
   -- the three ways behind an item
-  after-ways : (P : Parse L → Type 0) (rest : ℕ → Parse L) → (byteAt s j ≡ 0x2C → P (rest j)) → (byteAt s j ≡ closing → P (parsed all (j + 1))) → P (unexpected s j)
-      → P (afterItem closing rest s all j)
+  after-ways : (P : Parse L → Type 0) (rest : ℕ → Parse L) → (byteAt s j ≡ 0x2C → P (rest j)) → (byteAt s j ≡ closing → P (parsed all (j + 1)))
+      → P (unexpected s j) → P (afterItem closing rest s all j)
   unfolding afterItem
   after-ways P rest f g h =
       both P (eqb (byteAt s j) 0x2C) (λ t. f (eqb-true _ _ t))
@@ -102,7 +102,8 @@ module _ {L : Type 0} {s : List ℕ} {rows : L → ℕ} {item : L → ℕ → Pa
 
   module _ (closing : ℕ) where
     -- any number that is at least the bytes left will do
-    items-enough : (k m : ℕ) (before : L) (i : ℕ) → length s ≤ i + k → length s ≤ i + m → itemsFrom k closing item s before i ≡ itemsFrom m closing item s before i
+    items-enough : (k m : ℕ) (before : L) (i : ℕ) → length s ≤ i + k → length s ≤ i + m
+        → itemsFrom k closing item s before i ≡ itemsFrom m closing item s before i
     unfolding itemsFrom
     items-enough zero zero before i h g = refl
     items-enough zero (suc m) before i h g = rw (r .ended before i (omega arith))
@@ -115,7 +116,8 @@ module _ {L : Type 0} {s : List ℕ} {rows : L → ℕ} {item : L → ℕ → Pa
 
     -- a step
     pub items-step : (before : L) (i : ℕ)
-        → itemsAt closing item s before i ≡ then (item before i) (λ all e. afterItem closing (λ j. itemsAt closing item s all (skip s (j + 1))) s all (skip s e))
+        → itemsAt closing item s before i
+        ≡ then (item before i) (λ all e. afterItem closing (λ j. itemsAt closing item s all (skip s (j + 1))) s all (skip s e))
     unfolding itemsAt itemsFrom
     items-step before i =
         items-enough (length s - i) (suc (length s)) before i (omega arith) (omega arith)
@@ -141,7 +143,8 @@ module _ {L : Type 0} {s : List ℕ} {rows : L → ℕ} {item : L → ℕ → Pa
       items-bad n m = behind ∙ after-bad closing s all j _ n m
 
     -- what follows an item counts from it on
-    after-item : (before all : L) (i e i₂ : ℕ) → Adds s rows before i (parsed all e) → e < i₂ → (o : Parse L) → ItemsWithin s rows all i₂ o → ItemsWithin s rows before i o
+    after-item : (before all : L) (i e i₂ : ℕ) → Adds s rows before i (parsed all e) → e < i₂ → (o : Parse L) → ItemsWithin s rows all i₂ o
+        → ItemsWithin s rows before i o
     after-item before all i e i₂ t l (refused c p) w = w
     after-item before all i e i₂ t l (parsed more f) w = omega arith
 

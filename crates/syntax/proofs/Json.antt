@@ -1,11 +1,11 @@
 -- Whatever is read spells a JSON value: its names differ, its strings have scalar values only, its numbers follow the grammar.
 use mathlib.Core.Path.{_≡_, refl}
 use mathlib.Core.List.{List}
-use mathlib.Core.Bool.{Bool, true, false, _||_}
+use mathlib.Core.Bool.{false}
 use Prim.Native.Nat.{ℕ, _+_, _-_}
-use native.Mathlib.Omega.{arith}
 use Rattle.model.specs.Text.{same}
 use Rattle.model.specs.Value.{hasName, IsJson, AreJson, AreMembers}
+use Rattle.model.proofs.Basics.{or-false}
 use Rattle.tokens.specs.Parse.{parsed}
 use Rattle.chars.specs.Strings.{part}
 use Rattle.tokens.specs.Tokens.{Kind, Null, False, True, Whole, Fractional, Quoted}
@@ -15,11 +15,6 @@ use Rattle.syntax.specs.Tree.{Node, Nodes, none, more, addNode, Members,
 use Rattle.syntax.specs.Grammar.{nameOf, repeated, valueAt}
 use Rattle.syntax.specs.Spelling.{scalarOf, valueOf, valuesOf, membersOf}
 use Rattle.syntax.proofs.Induction.{Rule, value-rule}
-
--- neither test holds
-neither : (a b : Bool) → a || b ≡ false → (a ≡ false) × (b ≡ false)
-neither true b t = absurd (let z : _≡_ {A = ℕ} 0 1 = cc in omega arith)
-neither false b t = (refl, t)
 
 module _ (s : List ℕ) where
   scalar-json : (k : Kind) (f e : ℕ) → Spells k s f e → IsJson (scalarOf s k f e)
@@ -40,14 +35,14 @@ module _ (s : List ℕ) where
         → hasName m (membersOf s (addMember ms f e n)) ≡ false
     still-new m no-member h d = rw d
     still-new m (member g i v ms) h d =
-        let x = neither (same m (nameOf s g i)) (hasName m (membersOf s ms)) h in rw (x .0) (still-new m ms (x .1) d)
+        let x = or-false (same m (nameOf s g i)) (hasName m (membersOf s ms)) h in rw (x .0) (still-new m ms (x .1) d)
 
     members-json : (ms : Members) → repeated s ms (nameOf s f e) ≡ false → AreMembers (membersOf s ms) → IsJson (valueOf s n)
         → AreMembers (membersOf s (addMember ms f e n))
     unfolding repeated
     members-json no-member d h j = (characters-text (part s (f + 1) (e - 1)), refl, j, tt)
     members-json (member g i v ms) d h j =
-        let x = neither (same (nameOf s g i) (nameOf s f e)) (repeated s ms (nameOf s f e)) d in
+        let x = or-false (same (nameOf s g i) (nameOf s f e)) (repeated s ms (nameOf s f e)) d in
         (h .0, still-new (nameOf s g i) ms (h .1) (x .0), h .2, members-json ms (x .1) (h .3) j)
 
   spelling : Rule s (λ n. IsJson (valueOf s n)) (λ ns. AreJson (valuesOf s ns)) (λ ms. AreMembers (membersOf s ms))

@@ -1,5 +1,4 @@
 -- What holds of every text that is read, and of every refusal (01, "Text", "Rows", "Three services").
--- of a value at any place: where it lies, and that it spells a JSON value
 use mathlib.Core.Path.{_≡_}
 use mathlib.Core.List.{List}
 use Prim.Native.Nat.{ℕ, _≤_, _<_}
@@ -7,6 +6,7 @@ use native.Mathlib.Omega.{arith}
 use lib.ListN.{length}
 use borrow.Author.Tests.{lt-ltb}
 use Rattle.model.specs.Value.{IsJson}
+use Rattle.model.proofs.Basics.{never}
 use Rattle.tokens.specs.Parse.{refused, parsed}
 use Rattle.tokens.specs.Space.{isSpace, skip}
 use Rattle.chars.proofs.Facts.{run-within}
@@ -20,6 +20,7 @@ use Rattle.syntax.proofs.Holding.{holds-same, table-holds}
 use Rattle.syntax.proofs.Items.{Refusal}
 use Rattle.syntax.proofs.Values.{value-within, value-takes}
 use Rattle.syntax.proofs.Induction.{read-ways, read-begins}
+-- of a value at any place: where it lies, and that it spells a JSON value
 pub use Rattle.syntax.proofs.Placing.{value-placed}
 pub use Rattle.syntax.proofs.Json.{value-json}
 
@@ -68,7 +69,7 @@ module _ (bytes depth : ℕ) (s : List ℕ) where
       (λ l q. let x : c ≡ 1 = cc in let y : p ≡ bytes = cc in omega arith)
       (λ d r w q. let x : c ≡ d = cc in let y : p ≡ r = cc in let z : Refusal s d r = rw w at (value-within s depth (skip s 0)) in omega arith)
       (λ n e b l q. let x : c ≡ 3 = cc in let y : p ≡ skip s e = cc in omega arith)
-      (λ n e b l q. absurd (let z : _≡_ {A = ℕ} 0 1 = cc in omega arith))
+      (λ n e b l q. never (cc))
 
 -- ---- tables
 

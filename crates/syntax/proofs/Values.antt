@@ -6,8 +6,8 @@ use mathlib.Core.Bool.{true, false}
 use Prim.Native.Nat.{ℕ, zero, suc, _+_, _*_, _-_, _≤_, _<_}
 use native.Mathlib.Omega.{arith}
 use lib.ListN.{length, List·getD-eq-default}
-use lib.Dec.{eqb, lit<}
-use types.Run.{OneOf}
+use lib.Dec.{eqb}
+use types.Run.{OneOf, miss}
 use denote.Enum.Declared.{tagOf}
 use borrow.Author.Tests.{eqb-true, ne-eqb}
 use Rattle.chars.specs.Bytes.{byteAt}
@@ -21,7 +21,7 @@ use Rattle.chars.specs.declared.strings.Scan.the-variants.{Ends, Stopped}
 use Rattle.tokens.specs.declared.scalars.First.{First}
 use Rattle.tokens.specs.declared.scalars.First.the-variants.{Array, Object, Quote, Number, LetterN, LetterF, LetterT, Other}
 use Rattle.tokens.proofs.scalars.First.{the-type}
-use Rattle.model.proofs.Basics.{both}
+use Rattle.model.proofs.Basics.{never, both}
 use Rattle.chars.proofs.Facts.{run-from, ScanAhead, string-ahead}
 use Rattle.tokens.proofs.Facts.{first-array, first-object, scalar-bounded, scalar-end, Bounded, unexpected-bounded, unexpected-end}
 use Rattle.syntax.specs.Tree.{Node, scalar, array, object, Nodes, none, addNode, Members, no-member, addMember}
@@ -36,6 +36,18 @@ use Rattle.syntax.proofs.Sizes.{size-pos, sizes-add, sizesMembers-add}
 abbrev opening : ((ℕ → Parse Node) → List ℕ → ℕ → Parse Node) → ℕ → List ℕ → ℕ → Parse Node
 opening at zero s j = refused 7 j
 opening at (suc d) s j = at (valueAt d s) s j
+
+-- the three ways: an array, an object, and what holds no other value
+module _ (P : Parse Node → Type 0) (a o : ℕ → Parse Node) (s : List ℕ) (i : ℕ) where
+  pub by-ways : (f : First) → (f ≡ Array → P (a i)) → (f ≡ Object → P (o i)) → P (leafAt s i) → P (valueBy f a o s i)
+  by-ways Array g h l = g refl
+  by-ways Object g h l = h refl
+  by-ways Quote g h l = l
+  by-ways Number g h l = l
+  by-ways LetterN g h l = l
+  by-ways LetterF g h l = l
+  by-ways LetterT g h l = l
+  by-ways Other g h l = l
 
 module _ (d : ℕ) (s : List ℕ) (i : ℕ) where
   value-by : valueAt d s i ≡ valueBy (firstOf (byteAt s i)) (opening arrayAt d s) (opening objectAt d s) s i
@@ -64,58 +76,28 @@ module _ (d : ℕ) (s : List ℕ) (i : ℕ) where
     value-object z = value-by ∙ rw f (opened objectAt z)
 
   pub value-leaf : (firstOf (byteAt s i) ≡ Array → ⊥) → (firstOf (byteAt s i) ≡ Object → ⊥) → valueAt d s i ≡ leafAt s i
-  value-leaf n m = value-by ∙ go (firstOf (byteAt s i)) n m
-    where
-      go : (f : First) → (f ≡ Array → ⊥) → (f ≡ Object → ⊥) → valueBy f (opening arrayAt d s) (opening objectAt d s) s i ≡ leafAt s i
-      go Array n m = absurd (n refl)
-      go Object n m = absurd (m refl)
-      go Quote n m = refl
-      go Number n m = refl
-      go LetterN n m = refl
-      go LetterF n m = refl
-      go LetterT n m = refl
-      go Other n m = refl
-
--- a tag above those of `Array` and `Object`
-above : {t : ℕ} → OneOf (0 ∷ 1 ∷ []) t → 1 < t → ⊥
-above (inl e) l = omega arith
-above (inr e) l = omega arith
+  value-leaf n m = value-by ∙ by-ways (λ o. o ≡ leafAt s i) _ _ s i (firstOf (byteAt s i)) (λ q. absurd (n q)) (λ q. absurd (m q)) refl
 
 -- by its tag it opens an array or an object
 pub first-opens : (f : First) → OneOf (0 ∷ 1 ∷ []) (tagOf the-type f) → (f ≡ Array) ⊎ (f ≡ Object)
 first-opens Array h = inl refl
 first-opens Object h = inr refl
-first-opens Quote h = absurd (above h (lit< tt))
-first-opens Number h = absurd (above h (lit< tt))
-first-opens LetterN h = absurd (above h (lit< tt))
-first-opens LetterF h = absurd (above h (lit< tt))
-first-opens LetterT h = absurd (above h (lit< tt))
-first-opens Other h = absurd (above h (lit< tt))
+first-opens Quote h = absurd (miss (0 ∷ 1 ∷ []) 2 tt h)
+first-opens Number h = absurd (miss (0 ∷ 1 ∷ []) 3 tt h)
+first-opens LetterN h = absurd (miss (0 ∷ 1 ∷ []) 4 tt h)
+first-opens LetterF h = absurd (miss (0 ∷ 1 ∷ []) 5 tt h)
+first-opens LetterT h = absurd (miss (0 ∷ 1 ∷ []) 6 tt h)
+first-opens Other h = absurd (miss (0 ∷ 1 ∷ []) 7 tt h)
 
 -- of the two, what is no array is an object
 pub opens-object : (f : First) → OneOf (0 ∷ 1 ∷ []) (tagOf the-type f) → OneOf (1 ∷ 2 ∷ 3 ∷ 4 ∷ 5 ∷ 6 ∷ 7 ∷ []) (tagOf the-type f) → f ≡ Object
-opens-object f h k = elim (first-opens f h) [ inl q ↦ absurd (later (rw q at k)) | inr q ↦ q ]
-  where
-    later : OneOf (1 ∷ 2 ∷ 3 ∷ 4 ∷ 5 ∷ 6 ∷ 7 ∷ []) 0 → ⊥
-    later (inl e) = omega arith
-    later (inr (inl e)) = omega arith
-    later (inr (inr (inl e))) = omega arith
-    later (inr (inr (inr (inl e)))) = omega arith
-    later (inr (inr (inr (inr (inl e))))) = omega arith
-    later (inr (inr (inr (inr (inr (inl e)))))) = omega arith
-    later (inr (inr (inr (inr (inr (inr e)))))) = omega arith
+opens-object f h k =
+    elim (first-opens f h) [ inl q ↦ absurd (miss (1 ∷ 2 ∷ 3 ∷ 4 ∷ 5 ∷ 6 ∷ 7 ∷ []) 0 tt (rw q at k)) | inr q ↦ q ]
 
 -- what begins neither an array nor an object
 pub first-leaf : (f : First) → OneOf (2 ∷ 3 ∷ 4 ∷ 5 ∷ 6 ∷ 7 ∷ []) (tagOf the-type f) → (f ≡ Array → ⊥) × (f ≡ Object → ⊥)
-first-leaf f h = (λ q. few 0 (rw q at h) (omega arith), λ q. few 1 (rw q at h) (omega arith))
-  where
-    few : (t : ℕ) → OneOf (2 ∷ 3 ∷ 4 ∷ 5 ∷ 6 ∷ 7 ∷ []) t → t ≤ 1 → ⊥
-    few t (inl e) l = omega arith
-    few t (inr (inl e)) l = omega arith
-    few t (inr (inr (inl e))) l = omega arith
-    few t (inr (inr (inr (inl e)))) l = omega arith
-    few t (inr (inr (inr (inr (inl e))))) l = omega arith
-    few t (inr (inr (inr (inr (inr e))))) l = omega arith
+first-leaf f h =
+    (λ q. miss (2 ∷ 3 ∷ 4 ∷ 5 ∷ 6 ∷ 7 ∷ []) 0 tt (rw q at h), λ q. miss (2 ∷ 3 ∷ 4 ∷ 5 ∷ 6 ∷ 7 ∷ []) 1 tt (rw q at h))
 
 -- ---- which way a name and a member go
 
@@ -153,7 +135,7 @@ module _ (v : ℕ → Parse Node) (s : List ℕ) (before : Members) (i : ℕ) wh
 -- what is made of a thing read ends where the thing ends
 pub made-parsed : {A B : Type 0} (o : Parse A) (make : A → ℕ → B) (b : B) (e : ℕ) → then o (λ a f. parsed (make a f) f) ≡ parsed b e
     → (a : A) × (b ≡ make a e) × (o ≡ parsed a e)
-made-parsed (refused c p) make b e q = absurd (let z : _≡_ {A = ℕ} 0 1 = cc in omega arith)
+made-parsed (refused c p) make b e q = never (cc)
 made-parsed (parsed a f) make b e q = let z : f ≡ e = cc in (a, cc, ap (parsed a) z)
 
 pub leaf-parsed : (s : List ℕ) {i e : ℕ} {n : Node} → leafAt s i ≡ parsed n e → (k : Kind) × (n ≡ scalar k i e) × (scalarAt s i ≡ parsed k e)
@@ -161,7 +143,7 @@ leaf-parsed s {i} {e} {n} q = made-parsed (scalarAt s i) (λ k f. scalar k i f) 
 
 quoted-parsed : (x : Scan) (k : Kind) (e : ℕ) → quoted x ≡ parsed k e → (x ≡ Ends e) × (k ≡ Quoted)
 quoted-parsed (Ends f) k e q = let z : f ≡ e = cc in (ap Ends z, cc)
-quoted-parsed (Stopped c p) k e q = absurd (let z : _≡_ {A = ℕ} 0 1 = cc in omega arith)
+quoted-parsed (Stopped c p) k e q = never (cc)
 
 -- a name that none before has, from its opening quote at i up to e
 abbrev pub Named : List ℕ → Members → ℕ → Kind → ℕ → Type 0
@@ -173,7 +155,7 @@ name-parsed s before i {k} {e} =
     both (λ o. o ≡ parsed k e → Named s before i k e) (eqb (byteAt s i) 0x22)
     (λ t q. let r = then-parsed (quoted (stringAt s (i + 1))) _ k e q in
     let x = quoted-parsed (stringAt s (i + 1)) (r .0) (r .1) (r .2) in
-    both (λ o. o ≡ parsed k e → Named s before i k e) (repeated s before (nameOf s i (r .1))) (λ _ z. absurd (let y : _≡_ {A = ℕ} 0 1 = cc in omega arith))
+    both (λ o. o ≡ parsed k e → Named s before i k e) (repeated s before (nameOf s i (r .1))) (λ _ z. never (cc))
     (λ u z. let y : r .1 ≡ e = cc in (eqb-true _ _ t, x .0 ∙ ap Ends y, rw (← y) u, cc))
     (r .3))
     (λ _ q. absurd (unexpected-no s i k e q))
@@ -190,14 +172,17 @@ pub record MemberRead (v : ℕ → Parse Node) (s : List ℕ) (before all : Memb
   pub added : all ≡ addMember before i behind node
 
 module _ (v : ℕ → Parse Node) where
-  pub element-parsed : (before : Nodes) {all : Nodes} {i e : ℕ} → elementAt v before i ≡ parsed all e → (n : Node) × (all ≡ addNode before n) × (v i ≡ parsed n e)
+  pub element-parsed : (before : Nodes) {all : Nodes} {i e : ℕ} → elementAt v before i ≡ parsed all e
+      → (n : Node) × (all ≡ addNode before n) × (v i ≡ parsed n e)
   element-parsed before {all} {i} {e} q = made-parsed (v i) (λ n f. addNode before n) all e q
 
   module _ (s : List ℕ) where
-    pub array-parsed : {i e : ℕ} {n : Node} → arrayAt v s i ≡ parsed n e → (ns : Nodes) × (n ≡ array i e ns) × (listAt 0x5D (elementAt v) s none i ≡ parsed ns e)
+    pub array-parsed : {i e : ℕ} {n : Node} → arrayAt v s i ≡ parsed n e
+        → (ns : Nodes) × (n ≡ array i e ns) × (listAt 0x5D (elementAt v) s none i ≡ parsed ns e)
     array-parsed {i} {e} {n} q = made-parsed (listAt 0x5D (elementAt v) s none i) (λ ns f. array i f ns) n e q
 
-    pub object-parsed : {i e : ℕ} {n : Node} → objectAt v s i ≡ parsed n e → (ms : Members) × (n ≡ object i e ms) × (listAt 0x7D (memberAt v s) s no-member i ≡ parsed ms e)
+    pub object-parsed : {i e : ℕ} {n : Node} → objectAt v s i ≡ parsed n e
+        → (ms : Members) × (n ≡ object i e ms) × (listAt 0x7D (memberAt v s) s no-member i ≡ parsed ms e)
     object-parsed {i} {e} {n} q = made-parsed (listAt 0x7D (memberAt v s) s no-member i) (λ ms f. object i f ms) n e q
 
     pub member-parsed : (before : Members) (i : ℕ) {all : Members} {e : ℕ} → memberAt v s before i ≡ parsed all e → MemberRead v s before all i e
@@ -314,26 +299,14 @@ leaf-within s i = go (scalarAt s i) (scalar-bounded s i)
     go (refused c p) w = w
     go (parsed k e) w = omega arith
 
-by-within : (s : List ℕ) (i : ℕ) (a o : ℕ → Parse Node) (f : First) → (f ≡ Array → ValueWithin s i (a i)) → (f ≡ Object → ValueWithin s i (o i)) → ValueWithin s i (valueBy f a o s i)
-by-within s i a o Array g h = g refl
-by-within s i a o Object g h = h refl
-by-within s i a o Quote g h = leaf-within s i
-by-within s i a o Number g h = leaf-within s i
-by-within s i a o LetterN g h = leaf-within s i
-by-within s i a o LetterF g h = leaf-within s i
-by-within s i a o LetterT g h = leaf-within s i
-by-within s i a o Other g h = leaf-within s i
-
 pub value-within : (s : List ℕ) (d i : ℕ) → ValueWithin s i (valueAt d s i)
 unfolding valueAt
 value-within s zero i =
-    by-within s i (λ j. refused 7 j) (λ j. refused 7 j) (firstOf (byteAt s i))
-    (λ q. omega (arith, byte-in s i 0x5B (omega arith) (first-array (byteAt s i) q)))
-    (λ q. omega (arith, byte-in s i 0x7B (omega arith) (first-object (byteAt s i) q)))
+    by-ways (ValueWithin s i) _ _ s i (firstOf (byteAt s i)) (λ q. omega (arith, byte-in s i 0x5B (omega arith) (first-array (byteAt s i) q)))
+    (λ q. omega (arith, byte-in s i 0x7B (omega arith) (first-object (byteAt s i) q))) (leaf-within s i)
 value-within s (suc d) i =
-    by-within s i (arrayAt (valueAt d s) s) (objectAt (valueAt d s) s) (firstOf (byteAt s i))
-    (λ _. array-of s (valueAt d s) (value-within s d) (value-end d s) i)
-    (λ _. object-of s (valueAt d s) (value-within s d) (value-end d s) i)
+    by-ways (ValueWithin s i) _ _ s i (firstOf (byteAt s i)) (λ _. array-of s (valueAt d s) (value-within s d) (value-end d s) i)
+    (λ _. object-of s (valueAt d s) (value-within s d) (value-end d s) i) (leaf-within s i)
 
 module _ (s : List ℕ) (d : ℕ) where
   pub element-reads : Reads s sizes (elementAt (valueAt d s))

@@ -36,7 +36,8 @@ unfoldable pub answerOf : ℕ → ℕ → Parse Node → Answer
 answerOf which w (refused c p) = answer c which p 0
 answerOf which w (parsed n e) = cond (leb (size n) (rowsIn w)) (answer 0 0 0 (size n)) (answer 8 which 0 (size n))
 
--- "A table whose text was well-formed and had room holds its rows, and the words behind the last row are as found"; "Any other table, and that of a text not reached, is as found."
+-- "A table whose text was well-formed and had room holds its rows, and the words behind the last row are as found";
+-- "Any other table, and that of a text not reached, is as found."
 unfoldable pub tableOf : List ℕ → Parse Node → List ℕ
 tableOf t (refused c p) = t
 tableOf t (parsed n e) = cond (leb (size n) (rowsIn (length t))) (words n ++ drop (rowWords * size n) t) t

@@ -14,7 +14,8 @@ Bounded s i (refused c p) = (p ≤ length s) × (2 ≤ c) × (c ≤ 7)
 Bounded s i (parsed a e) = (i < e) × (e ≤ length s)
 
 -- both ways in which a byte is not allowed
-pub unexpected-ways : {A : Type 0} (P : Parse A → Type 0) (s : List ℕ) (j : ℕ) → (j < length s → P (refused 3 j)) → P (refused 2 (length s)) → P (unexpected s j)
+pub unexpected-ways : {A : Type 0} (P : Parse A → Type 0) (s : List ℕ) (j : ℕ)
+    → (j < length s → P (refused 3 j)) → P (refused 2 (length s)) → P (unexpected s j)
 unfolding unexpected
 unexpected-ways P s j f g = both P (ltb j (length s)) (λ t. f (ltb-true j (length s) t)) (λ _. g)
 

@@ -4,7 +4,7 @@ use mathlib.Core.List.{[], _∷_}
 use Prim.Native.String.{String}
 use Rattle.model.specs.Text.{text}
 use Rattle.tokens.specs.declared.scalars.First.the-variants.{Array, Object, Quote, Number, LetterN, LetterF, LetterT, Other}
-use Rattle.chars.specs.Bytes.{codeOf, named}
+use Rattle.chars.specs.Bytes.{codeOf, escapeOf}
 use Rattle.tokens.specs.Parse.{Parse, refused, parsed, unexpected}
 use Rattle.chars.specs.Runs.{runFrom, run}
 use Rattle.tokens.specs.Space.{isSpace, skip}
@@ -71,7 +71,7 @@ pub strings : (reads "\"a\"" ≡ parsed Quoted 3)
     × (reads "\"" ≡ refused 2 1)
     × (reads "\"\n\"" ≡ refused 3 1)
     × (reads "\"\\x\"" ≡ refused 3 2)
-unfolding codeOf named stopAt wrongAt escapeAt charFrom charAt stringFrom stringAt firstOf
+unfolding codeOf escapeOf stopAt wrongAt escapeAt charFrom charAt stringFrom stringAt firstOf
 strings = (refl, refl, refl, refl, refl)
 
 -- no such value begins there

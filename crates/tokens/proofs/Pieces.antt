@@ -1,7 +1,7 @@
 -- Parts of a text, one behind the other, and tests that all bytes of a part pass.
-use mathlib.Core.Path.{_≡_, refl, sym, ap, _∙_}
+use mathlib.Core.Path.{_≡_, ap, _∙_}
 use mathlib.Core.List.{List, [], _∷_, _++_}
-use mathlib.Core.Bool.{Bool, true, _&&_, and-assoc}
+use mathlib.Core.Bool.{Bool, true}
 use Prim.Native.Nat.{ℕ, zero, suc, _+_, _-_, _≤_, _<_}
 use native.Mathlib.Numerals.{add-one}
 use native.Mathlib.Decide.{decLt}
@@ -12,7 +12,7 @@ use Rattle.model.specs.Text.{all}
 use Rattle.chars.specs.Bytes.{byteAt}
 use Rattle.chars.specs.Runs.{runFrom, run}
 use Rattle.chars.specs.Strings.{part}
-use Rattle.model.proofs.Basics.{both, and-ways}
+use Rattle.model.proofs.Basics.{both}
 use Rattle.chars.proofs.Facts.{run-end, run-from, run-within}
 
 module _ (s : List ℕ) where
@@ -32,16 +32,6 @@ module _ (s : List ℕ) where
       let n : a + (b - a) ≡ b = omega arith in
       let z : c - a ≡ b - a + (c - b) = omega arith in
       rw (z, take-add, drop-drop, n)
-
--- every byte of both passes the test
-pub all-append : (p : ℕ → Bool) (s t : List ℕ) → all p (s ++ t) ≡ (all p s && all p t)
-all-append p [] t = refl
-all-append p (c ∷ s) t = ap (λ (b : Bool). p c && b) (all-append p s t) ∙ sym (and-assoc (p c) (all p s) (all p t))
-
--- what passes one test passes another
-pub all-imp : (p q : ℕ → Bool) → ((c : ℕ) → p c ≡ true → q c ≡ true) → (s : List ℕ) → all p s ≡ true → all q s ≡ true
-all-imp p q f [] h = refl
-all-imp p q f (c ∷ s) h = and-ways (p c) (all p s) h (λ t u. rw (f c t) (all-imp p q f s u))
 
 module _ (p : ℕ → Bool) (s : List ℕ) where
   from-least : (k i : ℕ) → i ≤ runFrom k p s i

@@ -1,4 +1,4 @@
--- Runs of bytes, and space (01, "Text").
+-- Space (01, "Text").
 use Prim.Native.Nat.{ℕ}
 use mathlib.Core.List.{List}
 use mathlib.Core.Bool.{Bool, _||_}

@@ -1,4 +1,4 @@
-// What a text is made of between its brackets: space, numbers, literals and strings.
+// What stands between the brackets of a text: space, and the values that hold no other (numbers, strings and literals).
 mod numbers;
 mod scalars;
 mod space;

@@ -9,7 +9,7 @@ use lib.ListN.{length}
 use lib.Dec.{ltb, eqb}
 use borrow.Author.Tests.{eqb-true, eqb-false, le-ltb, ne-eqb}
 use Rattle.model.specs.Text.{all}
-use Rattle.model.proofs.Basics.{both, by-test}
+use Rattle.model.proofs.Basics.{never, both, by-test}
 use Rattle.chars.specs.Bytes.{byteAt}
 use Rattle.chars.specs.Characters.{charAt}
 use Rattle.chars.specs.Strings.{part}
@@ -25,10 +25,6 @@ use Rattle.grammar.proofs.CharTrees.{charTree, char-quote, char-walk, char-good
 use Rattle.grammar.proofs.Characters.{lang-char}
 use Rattle.writer.specs.Spell.{isEscaped, letterOf, spellChar}
 use Rattle.writer.specs.Runs.{isOrdinary}
-
--- for cases that cannot be
-pub never : {A : Type 0} → _≡_ {A = ℕ} 0 1 → A
-never z = absurd (omega arith)
 
 -- ---- characters that are not escaped
 

@@ -18,7 +18,8 @@ literals : spell (array (vcons null (vcons (boolean true) (vcons (boolean false)
 literals = refl
 
 -- "members in their order", "numbers as spelled"
-members : spell (object (mcons (text "b") (number (text "1.0e+2")) (mcons (text "a") (array (vcons (number (text "-0")) (vcons (number (text "1.0")) vnil))) mnil)))
+members : let a = array (vcons (number (text "-0")) (vcons (number (text "1.0")) vnil)) in
+    spell (object (mcons (text "b") (number (text "1.0e+2")) (mcons (text "a") a mnil)))
     ≡ text "{\"b\":1.0e+2,\"a\":[-0,1.0]}"
 unfolding spellChar utf8
 members = refl

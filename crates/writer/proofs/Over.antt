@@ -21,6 +21,10 @@ module _ (out : List ℕ) where
   pub over-as : {u w : List ℕ} → u ≡ w → length u ≤ length out → (length w ≡ length u) × (sets out 0 w ≡ over u out)
   over-as {u} {w} e h = rw e (refl, over-sets w (omega (arith, ap length e)))
 
+  -- what is told of w, of bytes that are equal to w
+  pub over-of : {u w : List ℕ} {r : ℕ} {o : List ℕ} → u ≡ w → (r ≡ length w) × (o ≡ over w out) → (r ≡ length u) × (o ≡ over u out)
+  over-of e h = rw e h
+
   -- one byte more
   pub over-byte : (w : List ℕ) (n x : ℕ) → n ≡ length w → n < length out → set (over w out) n x ≡ over (w ++ (x ∷ [])) out
   over-byte w n x e h =

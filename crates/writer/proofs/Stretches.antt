@@ -9,7 +9,7 @@ use lib.ListN.{length, length-append}
 use lib.Dec.{eqb}
 use borrow.Author.Tests.{eqb-true, eqb-false}
 use Rattle.model.specs.Text.{all}
-use Rattle.model.proofs.Basics.{and-ways, by-test}
+use Rattle.model.proofs.Basics.{never, and-ways, by-test}
 use Rattle.chars.specs.declared.characters.Step.{Step}
 use Rattle.chars.specs.declared.characters.Step.the-variants.{Char, Quote, Refused}
 use Rattle.chars.specs.declared.strings.Scan.the-variants.{Ends}
@@ -26,7 +26,7 @@ use Rattle.writer.specs.Spell.{spellChars}
 use Rattle.writer.specs.Runs.{isOrdinary, ordinaryEnd}
 use Rattle.writer.specs.Tokens.{stringBytes}
 use Rattle.writer.proofs.runs.Laws.{length-part}
-use Rattle.writer.proofs.Copied.{never, not-ordinary, char-short, char-copied, char-is}
+use Rattle.writer.proofs.Copied.{not-ordinary, char-short, char-copied, char-is}
 
 -- from i on: the string goes on behind the stretch, which is copied
 pub record Stretch (s : List ℕ) (i e : ℕ) : Type 0 where
@@ -111,4 +111,6 @@ pub stretch : (s : List ℕ) (i e : ℕ) → stringAt s i ≡ Ends e → Stretch
 stretch s i e h =
     each-char s e (λ i. Stretch s i e)
     (λ i h q. none s i e h (not-ordinary (inl (quote-byte s i e q h))))
-    (λ i v j h q r. by-test (eqb (byteAt s i) 0x5C) (λ t. none s i e h (not-ordinary (inr (eqb-true (byteAt s i) 0x5C t)))) (λ f. more s i e h v j q (eqb-false _ _ f) r)) i h
+    (λ i v j h q r. by-test (eqb (byteAt s i) 0x5C)
+    (λ t. none s i e h (not-ordinary (inr (eqb-true (byteAt s i) 0x5C t))))
+    (λ f. more s i e h v j q (eqb-false _ _ f) r)) i h

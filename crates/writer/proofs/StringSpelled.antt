@@ -46,7 +46,8 @@ letterless c t z =
 digit-spelled : (n : ℕ) → n < 16 → IsHexDigit (hexDigit n) n
 unfolding hexDigit
 digit-spelled n h =
-    both (λ b. IsHexDigit b n) (ltb n 10) (λ t. decimal n (omega (arith, ltb-true n 10 t))) (λ t. letter (n - 10) (omega (arith, ltb-false n 10 t)) (omega arith))
+    both (λ b. IsHexDigit b n) (ltb n 10) (λ t. decimal n (omega (arith, ltb-true n 10 t)))
+    (λ t. letter (n - 10) (omega (arith, ltb-false n 10 t)) (omega arith))
   where
     letter : (x : ℕ) → 10 + x ≡ n → x ≤ 5 → IsHexDigit (0x57 + n) n
     letter x e l = let b : 0x61 + x ≡ 0x57 + n = omega arith in rw (← b, ← e) (lower x l)

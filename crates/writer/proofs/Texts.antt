@@ -59,8 +59,9 @@ turns-byte : (b : ℕ) → 0x22 < b → Turns (b ∷ []) (b ∷ [])
 unfolding isSpace
 turns-byte b l = record {
   goes = λ s i r a k.
+      let no : (x : ℕ) → x < 0x23 → eqb b x ≡ false = λ x h. ne-eqb b x (omega arith) in
       let f : isSpace (byteAt s i) || eqb (byteAt s i) 0x22 ≡ false =
-      rw (a .0, ne-eqb b 0x20 (omega arith), ne-eqb b 0x09 (omega arith), ne-eqb b 0x0A (omega arith), ne-eqb b 0x0D (omega arith), ne-eqb b 0x22 (omega arith)) in
+      rw (a .0, no 0x20 (omega arith), no 0x09 (omega arith), no 0x0A (omega arith), no 0x0D (omega arith), no 0x22 (omega arith)) in
       subst (λ (c : ℕ). Tokens s i (c ∷ r)) (a .0) (copied (a .1) f k);
 }
 

@@ -114,9 +114,17 @@ module _ {s : List ℕ} where
       by-test (eqb (byteAt s i) 0x22)
       (λ t. let r = tokens-string k (eqb-true _ _ t) in
       let b = quoted-bounds (r .is-quoted) in
-      record { rest = r .rest; splits = rw t (r .splits); string = λ _. r .is-quoted; ahead = rw t (omega arith); within = rw t (b .1); tokens = rw t (r .tokens) })
+      record {
+        rest = r .rest;
+        splits = rw t (r .splits);
+        string = λ _. r .is-quoted;
+        ahead = rw t (omega arith);
+        within = rw t (b .1);
+        tokens = rw t (r .tokens);
+      })
       (λ t. by-test (isStructural (byteAt s i))
-      (λ u. let r = tokens-byte k l f (eqb-false _ _ t) in copied-token (i + 1) (rw (t, u)) t (omega arith) (omega arith) (r .0, rw (part-one s i l) (r .1), r .2))
+      (λ u. let r = tokens-byte k l f (eqb-false _ _ t) in
+      copied-token (i + 1) (rw (t, u)) t (omega arith) (omega arith) (r .0, rw (part-one s i l) (r .1), r .2))
       (λ u. let z = run-next isAtom s i l (rw (f, t, u)) in
       let m = run-from isAtom s (i + 1) in
       copied-token (atomEnd s i) (rw (t, u)) t (omega arith) (run-within isAtom s i (omega arith)) (tokens-atoms k)))

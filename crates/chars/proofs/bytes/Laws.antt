@@ -1,17 +1,24 @@
 -- Bounds of the classes of bytes; a byte that is not 0 lies within the text.
 use mathlib.Core.Path.{_≡_, refl, subst}
 use mathlib.Core.List.{List}
-use mathlib.Core.Bool.{false, cond, _||_}
+use mathlib.Core.Bool.{true, false, cond, _||_}
 use Prim.Native.Nat.{ℕ, zero, suc, _-_, _≤_, _<_}
 use native.Mathlib.Decide.{decLt}
 use native.Mathlib.Omega.{arith}
 use lib.ListN.{length, List·getD-eq-default}
 use lib.Dec.{eqb, leb, lit≤}
-use borrow.Author.Tests.{leb-true, leb-false, le-leb}
+use borrow.Author.Tests.{leb-true, leb-false, le-leb, lt-leb}
 pub use Rattle.model.proofs.Basics.{both, and-ways}
-use Rattle.chars.specs.Bytes.{byteAt, from-to, codeOf, digit, named, lowest, highest, sixBits}
+use Rattle.model.proofs.Basics.{by-test}
+use Rattle.chars.specs.Bytes.{byteAt, from-to, codeOf, digit, escapeOf, lowest, highest, sixBits}
 
--- outside of a range
+-- within a range, and outside of it
+pub inside : (lo hi b : ℕ) → lo ≤ b → b ≤ hi → from-to lo hi b ≡ true
+inside lo hi b l h = rw (le-leb lo b l, le-leb b hi h)
+
+pub beside : (lo hi b : ℕ) → (lo ≤ b → hi < b) → from-to lo hi b ≡ false
+beside lo hi b n = by-test (leb lo b) (λ t. rw (t, lt-leb b hi (n (leb-true lo b t)))) (λ t. rw t)
+
 pub outside : (lo hi b : ℕ) → from-to lo hi b ≡ false → lo ≤ b → hi < b
 outside lo hi b t l = leb-false b hi (rw (le-leb lo b l) at t)
 
@@ -61,8 +68,8 @@ small : (b k x y : ℕ) → Small x → Small y → Small (cond (eqb b k) x y)
 small b k x y h g = both Small (eqb b k) (λ _. h) (λ _. g)
 
 -- a letter names a small character
-pub named-small : (b : ℕ) → named b ≤ 0x7F
-unfolding named
-named-small b =
+pub escape-small : (b : ℕ) → escapeOf b ≤ 0x7F
+unfolding escapeOf
+escape-small b =
     small b 0x22 _ _ (lit≤ tt) (small b 0x5C _ _ (lit≤ tt) (small b 0x2F _ _ (lit≤ tt) (small b 0x62 _ _ (lit≤ tt)
     (small b 0x66 _ _ (lit≤ tt) (small b 0x6E _ _ (lit≤ tt) (small b 0x72 _ _ (lit≤ tt) (small b 0x74 _ _ (lit≤ tt) (lit≤ tt))))))))

@@ -14,9 +14,10 @@ use Rattle.chars.specs.declared.characters.Step.{Step}
 use Rattle.chars.specs.declared.characters.Step.the-variants.{Char, Quote, Refused}
 use Rattle.chars.specs.declared.characters.Hex.{Hex}
 use Rattle.chars.specs.declared.characters.Hex.the-variants.{Pair, Bad}
-use Rattle.chars.specs.Bytes.{byteAt, from-to, codeOf, digit, named, lowest, highest, sixBits}
-use Rattle.chars.specs.Characters.{stopAt, wrongAt, hexPair, withPair, pairValue, partnerAt, restAt, unicodeAt, escapeAt, twoAt, threeAt, fourAt, charFrom, charAt}
-use Rattle.chars.proofs.bytes.Laws.{both, and-ways, outside, in-text, code-bound, digit-in, six-ways, lowest-of, highest-of, named-small}
+use Rattle.chars.specs.Bytes.{byteAt, from-to, codeOf, digit, escapeOf, lowest, highest, sixBits}
+use Rattle.chars.specs.Characters.{stopAt, wrongAt, hexPair, withPair, pairValue, partnerAt, restAt, unicodeAt, escapeAt}
+use Rattle.chars.specs.Characters.{twoAt, threeAt, fourAt, charFrom, charAt}
+use Rattle.chars.proofs.bytes.Laws.{both, and-ways, outside, in-text, code-bound, digit-in, six-ways, lowest-of, highest-of, escape-small}
 
 -- a Unicode scalar value: at most 10FFFF, and no surrogate
 abbrev pub Scalar : ℕ → Type 0
@@ -82,9 +83,11 @@ module _ (s : List ℕ) where
   pub rest-ahead : (i x h : ℕ) → i < x + 6 → h < 256 → (0xDC ≤ h → 0xDF < h) → Ahead s i (restAt s x h)
   unfolding restAt
   rest-ahead i x h l small none =
-      with-ahead i (x + 4) (λ l. cond (from-to 0xD8 0xDB h) (partnerAt s (x + 6) (256 * h + l)) (Char (256 * h + l) (x + 6))) (hexPair s (x + 4)) (hex-ahead (x + 4))
+      with-ahead i (x + 4) (λ l. cond (from-to 0xD8 0xDB h) (partnerAt s (x + 6) (256 * h + l)) (Char (256 * h + l) (x + 6)))
+      (hexPair s (x + 4)) (hex-ahead (x + 4))
       (λ v m w. both (Ahead s i) (from-to 0xD8 0xDB h)
-      (λ t. and-ways (leb 0xD8 h) (leb h 0xDB) t (λ p q. partner-ahead i (x + 6) (256 * h + v) l (omega (arith, leb-true 0xD8 h p)) (omega (arith, leb-true h 0xDB q))))
+      (λ t. and-ways (leb 0xD8 h) (leb h 0xDB) t
+      (λ p q. partner-ahead i (x + 6) (256 * h + v) l (omega (arith, leb-true 0xD8 h p)) (omega (arith, leb-true h 0xDB q))))
       (λ t. (omega arith, omega arith, (omega arith, λ g. omega (arith, none (outside 0xD8 0xDB h t (omega arith)))))))
 
   pub unicode-ahead : (i x : ℕ) → i < x + 6 → Ahead s i (unicodeAt s x)
@@ -93,18 +96,18 @@ module _ (s : List ℕ) where
       with-ahead i (x + 2) (λ h. cond (from-to 0xDC 0xDF h) (Refused 5 (x + 3)) (restAt s x h)) (hexPair s (x + 2)) (hex-ahead (x + 2))
       (λ v m w. both (Ahead s i) (from-to 0xDC 0xDF v) (λ _. omega arith) (λ t. rest-ahead i x v l w (outside 0xDC 0xDF v t)))
 
-  named-byte : (b : ℕ) → eqb (named b) 0 ≡ false → 0 < b
-  unfolding named
-  named-byte zero t = absurd (eqb-false 0 0 t refl)
-  named-byte (suc b) t = omega arith
+  escape-byte : (b : ℕ) → eqb (escapeOf b) 0 ≡ false → 0 < b
+  unfolding escapeOf
+  escape-byte zero t = absurd (eqb-false 0 0 t refl)
+  escape-byte (suc b) t = omega arith
 
   escape-ahead : (i : ℕ) → Ahead s i (escapeAt s i)
   unfolding escapeAt
   escape-ahead i =
       both (Ahead s i) (eqb (byteAt s (i + 1)) 0x75) (λ _. unicode-ahead i i (omega arith))
-      (λ _. both (Ahead s i) (eqb (named (byteAt s (i + 1))) 0) (λ _. wrong-ahead i (i + 1))
-      (λ t. let l = in-text s (i + 1) (named-byte (byteAt s (i + 1)) t) in
-      let n = named-small (byteAt s (i + 1)) in (omega arith, omega arith, (omega arith, λ g. omega arith))))
+      (λ _. both (Ahead s i) (eqb (escapeOf (byteAt s (i + 1))) 0) (λ _. wrong-ahead i (i + 1))
+      (λ t. let l = in-text s (i + 1) (escape-byte (byteAt s (i + 1)) t) in
+      let n = escape-small (byteAt s (i + 1)) in (omega arith, omega arith, (omega arith, λ g. omega arith))))
 
   six-in : (i lo hi : ℕ) → 0x80 ≤ lo → leb (sixBits (byteAt s i) lo hi) 63 ≡ true → i < length s
   six-in i lo hi l t = in-text s i (omega (arith, six-ways (byteAt s i) lo hi (leb-true _ _ t)))
@@ -137,7 +140,8 @@ module _ (s : List ℕ) where
       (λ _. stop-ahead i (i + 2) 4 (omega arith)))
       (λ _. stop-ahead i (i + 1) 4 (omega arith))
     where
-      three-high : (b c d : ℕ) → 0xE0 ≤ b → c ≤ 63 → d ≤ 63 → (b ≡ 0xED → c ≤ 31) → 0xD800 ≤ 4096 * (b - 0xE0) + 64 * c + d → 0xE000 ≤ 4096 * (b - 0xE0) + 64 * c + d
+      three-high : (b c d : ℕ) → 0xE0 ≤ b → c ≤ 63 → d ≤ 63 → (b ≡ 0xED → c ≤ 31)
+          → 0xD800 ≤ 4096 * (b - 0xE0) + 64 * c + d → 0xE000 ≤ 4096 * (b - 0xE0) + 64 * c + d
       three-high b c d lo hc hd f g = by-order b 0xED (λ l. absurd (omega arith)) (λ e. absurd (omega (arith, f e))) (λ l. omega arith)
 
   four-ahead : (i b : ℕ) → 0xF0 ≤ b → b < 0xF5 → Ahead s i (fourAt s i b)
@@ -151,7 +155,7 @@ module _ (s : List ℕ) where
       let d : sixBits (byteAt s (i + 2)) 0x80 0xBF ≤ 63 = leb-true _ _ u in
       let e : sixBits (byteAt s (i + 3)) 0x80 0xBF ≤ 63 = leb-true _ _ x in
       let w = six-ways (byteAt s (i + 1)) (lowest b) (highest b) c in
-      let r = four-range b (sixBits (byteAt s (i + 1)) (lowest b) (highest b)) (sixBits (byteAt s (i + 2)) 0x80 0xBF) (sixBits (byteAt s (i + 3)) 0x80 0xBF) lo hi c d e
+      let r = four-range b _ _ _ lo hi c d e
       (λ q. omega (arith, lowest-of b (byteAt s (i + 1)) (w .0) .1 q)) (λ q. omega (arith, highest-of b (byteAt s (i + 1)) (w .1) .1 q)) in
       (omega arith, omega arith, (r .1, λ _. omega arith)))
       (λ _. stop-ahead i (i + 3) 4 (omega arith)))

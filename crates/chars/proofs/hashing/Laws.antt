@@ -3,6 +3,7 @@ use mathlib.Core.Path.{_≡_, refl, ap, _∙_}
 use mathlib.Core.List.{List, [], _∷_}
 use Prim.Native.Nat.{ℕ, _+_, _-_, _<_}
 use native.Mathlib.Omega.{arith}
+use Rattle.model.proofs.Basics.{never}
 use Rattle.chars.specs.declared.characters.Step.the-variants.{Char, Quote, Refused}
 use Rattle.chars.specs.declared.strings.Scan.{Scan}
 use Rattle.chars.specs.declared.strings.Scan.the-variants.{Ends, Stopped}
@@ -32,10 +33,10 @@ module _ (s : List ℕ) (i : ℕ) where
 
   ends-by : (e h : ℕ) (x : Scan) → hashedBy s i x ≡ Name e h → (x ≡ Ends e) × (h ≡ hashOf (characters (part s i (e - 1))))
   ends-by e h (Ends e₂) q = (cc, cc)
-  ends-by e h (Stopped c p) q = let z : _≡_ {A = ℕ} 0 1 = cc in absurd (omega arith)
+  ends-by e h (Stopped c p) q = never (cc)
 
   stops-by : (c p : ℕ) (x : Scan) → hashedBy s i x ≡ Broken c p → x ≡ Stopped c p
-  stops-by c p (Ends e) q = let z : _≡_ {A = ℕ} 0 1 = cc in absurd (omega arith)
+  stops-by c p (Ends e) q = never (cc)
   stops-by c p (Stopped c₂ p₂) q = cc
 
   -- the string is as the name says

@@ -2,11 +2,11 @@
 use mathlib.Core.Path.{_≡_, refl, sym, _∙_}
 use mathlib.Core.List.{List}
 use mathlib.Core.Bool.{true, false, not, _&&_}
-use Prim.Native.Nat.{ℕ, zero, suc, _+_, _-_, _≤_}
+use Prim.Native.Nat.{ℕ, zero, suc, _+_, _-_, _≤_, _<_}
 use native.Mathlib.Omega.{arith}
 use lib.ListN.{length}
 use lib.Dec.{leb, ltb, eqb}
-use borrow.Author.Tests.{leb-true, le-leb, le-ltb, lt-ltb, ne-eqb, not-true}
+use borrow.Author.Tests.{leb-true, ltb-true, eqb-false, le-leb, lt-ltb, ne-eqb, not-true}
 use Rattle.chars.specs.declared.characters.Step.the-variants.{Char, Quote}
 use Rattle.chars.specs.Bytes.{byteAt}
 use Rattle.chars.specs.Runs.{runFrom, run}
@@ -15,19 +15,24 @@ use Rattle.chars.specs.Strings.{stringAt, characters}
 use Rattle.chars.specs.Plain.{isPlain, plainEnd}
 use Rattle.model.specs.Text.{same}
 use Rattle.chars.proofs.bytes.Laws.{both, and-ways}
+use Rattle.chars.proofs.Runs.{run-from}
+use Rattle.chars.proofs.characters.Utf8.{from-ascii}
 use Rattle.chars.proofs.strings.Laws.{string-char, chars-char, differ}
 
 from-plain : (s : List ℕ) (i b : ℕ) → isPlain b ≡ true → charFrom s i b ≡ Char b (i + 1)
-unfolding isPlain charFrom
+unfolding isPlain
 from-plain s i b t =
     and-ways (leb 0x20 b && ltb b 0x80 && not (eqb b 0x22)) (not (eqb b 0x5C)) t
     (λ u r. and-ways (leb 0x20 b && ltb b 0x80) (not (eqb b 0x22)) u
     (λ v q. and-ways (leb 0x20 b) (ltb b 0x80) v
-    (λ lo hi. rw (not-true (eqb b 0x22) q, not-true (eqb b 0x5C) r, le-ltb b 0x20 (leb-true 0x20 b lo), hi))))
+    (λ lo hi. from-ascii s i (leb-true 0x20 b lo) (ltb-true b 0x80 hi) (eqb-false b 0x22 (not-true _ q)) (eqb-false b 0x5C (not-true _ r)))))
+
+pub is-plain-of : {b : ℕ} → 0x20 ≤ b → b < 0x80 → (b ≡ 0x22 → ⊥) → (b ≡ 0x5C → ⊥) → isPlain b ≡ true
+unfolding isPlain
+is-plain-of {b} lo hi n m = rw (le-leb 0x20 b lo, lt-ltb b 0x80 hi, ne-eqb b 0x22 n, ne-eqb b 0x5C m)
 
 digit-plain : (b : ℕ) → 0x30 ≤ b → b ≤ 0x39 → isPlain b ≡ true
-unfolding isPlain
-digit-plain b lo hi = rw (le-leb 0x20 b (omega arith), lt-ltb b 0x80 (omega arith), ne-eqb b 0x22 (λ e. omega arith), ne-eqb b 0x5C (λ e. omega arith))
+digit-plain b lo hi = is-plain-of (omega arith) (omega arith) (λ e. omega arith) (λ e. omega arith)
 
 module _ (s : List ℕ) (i : ℕ) where
   pub plain-char : isPlain (byteAt s i) ≡ true → charAt s i ≡ Char (byteAt s i) (i + 1)
@@ -56,10 +61,14 @@ module _ (s : List ℕ) where
       (λ t. from-string k (i + 1) ∙ sym (string-char s i (byteAt s i) (i + 1) (plain-char s i t)))
       (λ _. refl)
 
-  -- the string goes on behind a run
-  pub plain-string : (i : ℕ) → stringAt s i ≡ stringAt s (plainEnd s i)
-  unfolding run
-  plain-string i = sym (from-string (length s - i) i)
+  -- the string goes on behind a run, which ends at e
+  module _ (i : ℕ) {e : ℕ} (run-to : e ≡ plainEnd s i) where
+    pub plain-string : stringAt s i ≡ stringAt s e
+    unfolding run
+    plain-string = rw run-to (sym (from-string (length s - i) i))
+
+    pub plain-ahead : i ≤ e
+    plain-ahead = rw run-to (run-from isPlain s i)
 
 -- names that begin with different plain bytes
 module _ (a b : List ℕ) {x y : ℕ} where

@@ -1,7 +1,7 @@
 -- The characters of a string, one after the other.
 use mathlib.Core.Path.{_≡_, refl, sym, ap, _∙_}
 use mathlib.Core.List.{List, [], _∷_}
-use mathlib.Core.Bool.{true, false}
+use mathlib.Core.Bool.{Bool, true, false}
 use Prim.Native.Nat.{ℕ, zero, suc, _+_, _-_, _≤_, _<_}
 use native.Mathlib.Omega.{arith}
 use lib.ListN.{length}
@@ -128,14 +128,27 @@ module _ {p q xs ys : List ℕ} {x y : ℕ} where
   pub differ : p ≡ x ∷ xs → q ≡ y ∷ ys → (x ≡ y → ⊥) → same p q ≡ false
   differ e g n = rw (e, g, ne-eqb x y n)
 
-  pub alike : p ≡ x ∷ xs → q ≡ y ∷ ys → x ≡ y → same p q ≡ same xs ys
+  alike : p ≡ x ∷ xs → q ≡ y ∷ ys → x ≡ y → same p q ≡ same xs ys
   alike e g n = rw (e, g, eq-eqb x y n)
 
-pub longer : {p q xs : List ℕ} {x : ℕ} → p ≡ x ∷ xs → q ≡ [] → same p q ≡ false
-longer e g = rw (e, g)
+-- two names, of which x is what stands at i of the one, and y what stands at j of the other
+module _ (a b : List ℕ) (i j : ℕ) {x y : Step} (p : x ≡ charAt a i) (q : y ≡ charAt b j) where
+  abbrev Same : Bool → Type 0
+  Same t = same (charsAt a i) (charsAt b j) ≡ t
 
-pub shorter : {p q ys : List ℕ} {y : ℕ} → p ≡ [] → q ≡ y ∷ ys → same p q ≡ false
-shorter e g = rw (e, g)
+  module _ {v n : ℕ} (l : x ≡ Char v n) where
+    pub names-differ : {w m : ℕ} → y ≡ Char w m → (v ≡ w → ⊥) → Same false
+    names-differ {w} {m} r h = differ (chars-char a i v n (sym p ∙ l)) (chars-char b j w m (sym q ∙ r)) h
 
-pub ended : {p q : List ℕ} → p ≡ [] → q ≡ [] → same p q ≡ true
-ended e g = rw (e, g)
+    pub names-alike : {w m : ℕ} → y ≡ Char w m → v ≡ w → Same (same (charsAt a n) (charsAt b m))
+    names-alike {w} {m} r h = alike (chars-char a i v n (sym p ∙ l)) (chars-char b j w m (sym q ∙ r)) h
+
+    pub first-longer : (tagOf the-type y ≡ 1) ⊎ (tagOf the-type y ≡ 2) → Same false
+    first-longer r = rw (chars-char a i v n (sym p ∙ l), chars-none b j y q r)
+
+  module _ (l : (tagOf the-type x ≡ 1) ⊎ (tagOf the-type x ≡ 2)) where
+    pub second-longer : {w m : ℕ} → y ≡ Char w m → Same false
+    second-longer {w} {m} r = rw (chars-none a i x p l, chars-char b j w m (sym q ∙ r))
+
+    pub both-ended : (tagOf the-type y ≡ 1) ⊎ (tagOf the-type y ≡ 2) → Same true
+    both-ended r = rw (chars-none a i x p l, chars-none b j y q r)

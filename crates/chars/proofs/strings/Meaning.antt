@@ -3,7 +3,6 @@ use mathlib.Core.Path.{_≡_, refl, ap}
 use mathlib.Core.List.{List, [], _∷_}
 use mathlib.Core.Bool.{true, false}
 use Prim.Native.Nat.{ℕ, zero, suc, _-_}
-use native.Mathlib.Omega.{arith}
 use lib.ListN.{length}
 use lib.Dec.{eqb}
 use borrow.Author.Tests.{eqb-true}
@@ -12,14 +11,14 @@ use Rattle.chars.specs.declared.characters.Step.the-variants.{Char, Quot
 use Rattle.chars.specs.Characters.{charAt}
 use Rattle.chars.specs.Strings.{spell, charsFrom, charsAt, characters}
 use Rattle.model.specs.Text.{same}
-use Rattle.model.proofs.Basics.{same-of, by-test}
+use Rattle.model.proofs.Basics.{never, same-of, by-test}
 use Rattle.chars.proofs.bytes.Laws.{and-ways}
 use Rattle.chars.proofs.characters.Laws.{Scalar, Ahead, char-ahead}
 
 pub same-true : (xs ys : List ℕ) → same xs ys ≡ true → xs ≡ ys
 same-true [] [] t = refl
-same-true [] (y ∷ ys) t = let z : _≡_ {A = ℕ} 0 1 = cc in absurd (omega arith)
-same-true (x ∷ xs) [] t = let z : _≡_ {A = ℕ} 0 1 = cc in absurd (omega arith)
+same-true [] (y ∷ ys) t = never (cc)
+same-true (x ∷ xs) [] t = never (cc)
 same-true (x ∷ xs) (y ∷ ys) t = and-ways (eqb x y) (same xs ys) t (λ u v. let e : x ≡ y = eqb-true x y u in let r : xs ≡ ys = same-true xs ys v in cc)
 
 pub other-of : (xs ys : List ℕ) → (xs ≡ ys → ⊥) → same xs ys ≡ false

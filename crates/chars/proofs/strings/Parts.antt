@@ -8,13 +8,15 @@ use lib.ListN.{length, getD, drop, length-take, length-drop}
 use lib.Seq.{getD-take, getD-drop}
 use lib.Dec.{ltb, leb, eqb}
 use borrow.Author.Tests.{leb-true}
+use Rattle.model.proofs.Basics.{never}
 use Rattle.chars.specs.declared.characters.Step.{Step}
 use Rattle.chars.specs.declared.characters.Step.the-variants.{Char, Quote, Refused}
 use Rattle.chars.specs.declared.characters.Hex.{Hex}
 use Rattle.chars.specs.declared.characters.Hex.the-variants.{Pair, Bad}
 use Rattle.chars.specs.declared.strings.Scan.the-variants.{Ends, Stopped}
-use Rattle.chars.specs.Bytes.{byteAt, from-to, codeOf, digit, named, lowest, highest, sixBits}
-use Rattle.chars.specs.Characters.{stopAt, wrongAt, hexPair, withPair, pairValue, partnerAt, restAt, unicodeAt, escapeAt, twoAt, threeAt, fourAt, charFrom, charAt}
+use Rattle.chars.specs.Bytes.{byteAt, from-to, codeOf, digit, escapeOf, lowest, highest, sixBits}
+use Rattle.chars.specs.Characters.{stopAt, wrongAt, hexPair, withPair, pairValue, partnerAt, restAt, unicodeAt, escapeAt}
+use Rattle.chars.specs.Characters.{twoAt, threeAt, fourAt, charFrom, charAt}
 use Rattle.chars.specs.Strings.{stringAt, charsAt, characters, part, spell}
 use Rattle.chars.proofs.bytes.Laws.{both, and-ways, outside}
 use Rattle.chars.proofs.characters.Laws.{Ahead, HexAhead, hex-ahead, partner-ahead, rest-ahead, unicode-ahead, char-ahead, char-end}
@@ -36,8 +38,8 @@ with-ways P s k (Bad p) f g = g p
 
 pair-of : (p q : Bool) (n i v : ℕ) → cond p (cond q (Pair n) (Bad (i + 1))) (Bad i) ≡ Pair v → (p ≡ true) × (q ≡ true) × (n ≡ v)
 pair-of true true n i v e = (refl, refl, cc)
-pair-of true false n i v e = let z : _≡_ {A = ℕ} 0 1 = cc in absurd (omega arith)
-pair-of false q n i v e = let z : _≡_ {A = ℕ} 0 1 = cc in absurd (omega arith)
+pair-of true false n i v e = never (cc)
+pair-of false q n i v e = never (cc)
 
 module _ (s t : List ℕ) (d c : ℕ) (agree : (y x : ℕ) → x ≡ y + d → x < c → byteAt t y ≡ byteAt s x) where
   stop-moved : (x a : ℕ) (st : Step) → Moved d c (stopAt s x a) st
@@ -95,7 +97,8 @@ module _ (s t : List ℕ) (d c : ℕ) (agree : (y x : ℕ) → x ≡ y + d → x
       (λ l e. both P (from-to 0xD8 0xDB h)
       (λ u. and-ways (leb 0xD8 h) (leb h 0xDB) u
       (λ a b. let w : HexAhead s (x + 4) (Pair l) = rw e at (hex-ahead s (x + 4)) in
-      via (partnerAt s (x + 6) (256 * h + l)) (partnerAt t (y + 6) (256 * h + l)) (restAt t y h) (x + 5) (partner-moved (y + 6) (x + 6) (256 * h + l) (omega arith))
+      via (partnerAt s (x + 6) (256 * h + l)) (partnerAt t (y + 6) (256 * h + l)) (restAt t y h) (x + 5)
+      (partner-moved (y + 6) (x + 6) (256 * h + l) (omega arith))
       (partner-ahead s (x + 5) (x + 6) (256 * h + l) (omega arith) (omega (arith, leb-true 0xD8 h a)) (omega (arith, leb-true h 0xDB b)))
       (λ g. rw (hex-moved (y + 4) (x + 4) l (omega arith) (omega arith) e, u))))
       (λ u g. let n : y + 6 ≡ x + 6 - d = omega arith in rw (hex-moved (y + 4) (x + 4) l (omega arith) (omega arith) e, u, n)))
@@ -119,7 +122,7 @@ module _ (s t : List ℕ) (d c : ℕ) (agree : (y x : ℕ) → x ≡ y + d → x
       both P (eqb (byteAt s (x + 1)) 0x75)
       (λ u. via (unicodeAt s x) (unicodeAt t y) (escapeAt t y) (x + 5) (unicode-moved y x q) (unicode-ahead s (x + 5) x (omega arith))
       (λ g. rw (agree (y + 1) (x + 1) (omega arith) (omega arith), u)))
-      (λ u. both P (eqb (named (byteAt s (x + 1))) 0) (λ _. wrong-moved (x + 1) _)
+      (λ u. both P (eqb (escapeOf (byteAt s (x + 1))) 0) (λ _. wrong-moved (x + 1) _)
       (λ w g. let n : y + 2 ≡ x + 2 - d = omega arith in rw (agree (y + 1) (x + 1) (omega arith) (omega arith), u, w, n)))
 
   two-moved : (y x b : ℕ) → x ≡ y + d → Moved d c (twoAt s x b) (twoAt t y b)
@@ -148,7 +151,8 @@ module _ (s t : List ℕ) (d c : ℕ) (agree : (y x : ℕ) → x ≡ y + d → x
       (λ u. both P (leb (sixBits (byteAt s (x + 2)) 0x80 0xBF) 63)
       (λ w. both P (leb (sixBits (byteAt s (x + 3)) 0x80 0xBF) 63)
       (λ z g. let n : y + 4 ≡ x + 4 - d = omega arith in
-      rw (agree (y + 1) (x + 1) (omega arith) (omega arith), u, agree (y + 2) (x + 2) (omega arith) (omega arith), w, agree (y + 3) (x + 3) (omega arith) (omega arith), z, n))
+      let f = agree (y + 3) (x + 3) (omega arith) (omega arith) in
+      rw (agree (y + 1) (x + 1) (omega arith) (omega arith), u, agree (y + 2) (x + 2) (omega arith) (omega arith), w, f, z, n))
       (λ _. stop-moved (x + 3) 4 _))
       (λ _. stop-moved (x + 2) 4 _))
       (λ _. stop-moved (x + 1) 4 _)
@@ -190,14 +194,15 @@ module _ (s t : List ℕ) (d c : ℕ) (agree : (y x : ℕ) → x ≡ y + d → x
       let m : x + 1 ≡ c + 1 = cc in
       let u : charAt t y ≡ Refused 2 (length t) = char-end t y (omega arith) in
       chars-step t y ∙ ap (spell (charsAt t)) u ∙ sym (chars-step s x ∙ ap (spell (charsAt s)) f))
-      (λ a p f. let r : Stopped a p ≡ Ends (c + 1) = sym (string-stop s x a p f) ∙ e in let w : _≡_ {A = ℕ} 0 1 = cc in absurd (omega arith))
+      (λ a p f. let r : Stopped a p ≡ Ends (c + 1) = sym (string-stop s x a p f) ∙ e in never (cc))
 
 pub part-characters : (s : List ℕ) (i c : ℕ) → stringAt s i ≡ Ends (c + 1) → characters (part s i c) ≡ charsAt s i
 part-characters s i c e =
     let b = string-bounds s i (c + 1) e in
     let n : length (part s i c) + i ≡ c = simp (length-take, length-drop) (omega arith) in
     walk s (part s i c) i c
-    (λ y x q l. let m : y < c - i = omega arith in let w : i + y ≡ x = omega arith in getD-take (c - i) (drop i s) y 0 m ∙ getD-drop i s y 0 ∙ ap (λ (k : ℕ). getD s k 0) w)
+    (λ y x q l. let m : y < c - i = omega arith in let w : i + y ≡ x = omega arith in
+    getD-take (c - i) (drop i s) y 0 m ∙ getD-drop i s y 0 ∙ ap (λ (k : ℕ). getD s k 0) w)
     n (length s) 0 i (omega arith) (omega arith) e
 
 -- the same, by the place behind the closing quote

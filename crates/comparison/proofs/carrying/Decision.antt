@@ -1,4 +1,4 @@
--- Whether a new definition is carried to an old one, on plain values: one law for each way out of the functions of `comparing` (01, demand 3).
+-- The decision that `failing_field` makes field by field is the one of `subtype` on definitions (01, demand 3).
 use Prim.Native.Nat.{ℕ}
 use mathlib.Core.Path.{_≡_, refl, ap, ap₂, _∙_}
 use mathlib.Core.Bool.{Bool, true, false, cond, _&&_, _||_}

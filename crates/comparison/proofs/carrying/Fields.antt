@@ -1,4 +1,5 @@
--- Whether a new definition is carried to an old one, on plain values: one law for each way out of the functions of `comparing` (01, demand 3).
+-- Whether a new definition is carried to the fields of an old Object: `InFields` and `InWide` are the invariants of the loops over them,
+-- with a law for each way through (`failing_field`, `failing_wide`, `carried_found`).
 use Prim.Native.Nat.{ℕ, _+_, _-_, _≤_, _<_}
 use mathlib.Core.Path.{_≡_, refl, sym, ap, subst, _∙_}
 use mathlib.Core.Bool.{Bool, true, false, cond}
@@ -8,98 +9,76 @@ use native.Mathlib.Omega.{arith}
 use lib.ListN.{getD}
 use Rattle.model.specs.Definition.{JSON, Def, named}
 use Rattle.model.specs.Subtype.{subtype}
-use Rattle.syntax.specs.Tree.{Members}
 use Rattle.syntax.specs.Grammar.{nameOf}
-use Rattle.syntax.specs.Rows.{sizesMembers}
 use Rattle.syntax.specs.Holding.{word}
-use Rattle.definitions.specs.Definitions.{LocatedFields, fine, definitionAt, fieldsAt, bare, bareFields}
+use Rattle.definitions.specs.Definitions.{LocatedFields, bare, bareFields}
 use Rattle.comparison.specs.Carrying.{IsJsonRow, Pairing, Decided, fieldSubtype, firstFailing, FieldPairing, FieldDecided, FieldsPairing}
 use Rattle.comparison.specs.Carrying.{FieldAt, Fails, FieldsFailing}
 use Rattle.rows.specs.Records.{Reads}
 use Rattle.definitions.specs.Shapes.{DefinedRow}
 use Rattle.comparison.specs.Fields.{definitionUnder, Gives, FindsUnder, MatchesUnder}
 use Rattle.rows.specs.declared.records.Record.{Record}
-use Rattle.definitions.proofs.Facts.{Added, added-fine, fields-empty, same-fields}
-use Rattle.rows.proofs.Facts.{row, as-row, part-object, MembersLeft, MemberHere, members-start, member-here, members-next, members-end}
+use Rattle.definitions.proofs.Facts.{partRows, part-rows, FieldsLeft, FieldHere, field-here, fields-none, fields-start, fields-end, same-fields}
+use Rattle.rows.proofs.Facts.{part-object, MemberHere, members-start, member-here}
 use Rattle.rows.proofs.Facts.{Answers, answers-start, answers-here, answers-next}
 use Rattle.rows.specs.Matching.{mostNames}
 
 -- ---- the old fields, one after the other
 
--- before the field whose name is at row `here`, with `left` fields not yet compared
+module _ {s₁ s₂ t₁ t₂ : List ℕ} {r₁ r₂ : ℕ} (required : Bool) (p : FieldsPairing s₁ s₂ t₁ t₂ r₁ r₂) where
+  -- the first of the fields fs to which the new definition is not carried
+  abbrev pub failing : LocatedFields → Option (List ℕ × Def)
+  failing fs = firstFailing required (bare (p .new .definition)) (bareFields fs)
+
+-- before the field whose name is at row `here`, with `left` fields not yet compared: none before it fails
 pub record InFields (s₁ s₂ t₁ t₂ : List ℕ) (r₁ r₂ : ℕ) (required : Bool) (here left : ℕ) : Type 0 where
   pub given : FieldsPairing s₁ s₂ t₁ t₂ r₁ r₂
-  pub rest : Members
-  pub ahead : MembersLeft s₂ t₂ here left rest
+  pub present : 0 < r₂
   pub past : 0 < here  -- row 0 stands for none
   pub fields : LocatedFields
-  pub defines : fieldsAt s₂ rest ≡ fine fields
-  pub less : sizesMembers rest < word t₂ r₂ 4
-  pub stays : (p : FieldsPairing s₁ s₂ t₁ t₂ r₁ r₂)
-      → firstFailing required (bare (p .new .definition)) (bareFields fields) ≡ firstFailing required (bare (p .new .definition)) (bareFields (p .old .fields))
+  pub ahead : FieldsLeft s₂ t₂ r₂ here left fields
+  pub stays : (p : FieldsPairing s₁ s₂ t₁ t₂ r₁ r₂) → failing required p fields ≡ failing required p (p .old .fields)
 
 module _ {s₁ s₂ t₁ t₂ : List ℕ} {r₁ r₂ : ℕ} {required : Bool} where
-  pub fields-none : r₂ ≡ 0 → FieldsFailing s₁ s₂ t₁ t₂ r₁ r₂ required 0
-  fields-none e = record { tells = λ p. rw (fields-empty s₂ (p .old .part .absent e) (p .old .defines)) refl }
+  pub failing-absent : r₂ ≡ 0 → FieldsFailing s₁ s₂ t₁ t₂ r₁ r₂ required 0
+  failing-absent e = record { tells = λ p. rw (fields-none e (p .old)) refl }
 
-  pub fields-start : (p : FieldsPairing s₁ s₂ t₁ t₂ r₁ r₂) → 0 < r₂ → {left : ℕ} → left ≡ word t₂ r₂ 3 → InFields s₁ s₂ t₁ t₂ r₁ r₂ required (r₂ + 1) left
-  fields-start p l e =
-      let o = part-object (p .old .part) l in
-      record {
-        given = p;
-        rest = p .old .part .members;
-        ahead = members-start o e;
-        past = omega arith;
-        fields = p .old .fields;
-        defines = p .old .defines;
-        less = omega (arith, row (as-row o) .subtree);
-        stays = λ q. ap (λ (fs : LocatedFields). firstFailing required (bare (q .new .definition)) (bareFields fs)) (same-fields (p .old) (q .old));
-      }
+  pub failing-start : (p : FieldsPairing s₁ s₂ t₁ t₂ r₁ r₂) → 0 < r₂ → {left : ℕ} → left ≡ word t₂ r₂ 3 → InFields s₁ s₂ t₁ t₂ r₁ r₂ required (r₂ + 1) left
+  failing-start p l e = record {
+    given = p;
+    present = l;
+    past = omega arith;
+    fields = p .old .fields;
+    ahead = fields-start (p .old) l e;
+    stays = λ q. ap (failing required q) (same-fields (p .old) (q .old));
+  }
 
   module _ {here left : ℕ} (a : InFields s₁ s₂ t₁ t₂ r₁ r₂ required here left) where
-    pub fields-end : left ≤ 0 → FieldsFailing s₁ s₂ t₁ t₂ r₁ r₂ required 0
-    fields-end l = record { tells = λ p. subst (Fails s₂ t₂ r₂ 0) (rw (fields-empty s₂ (members-end (a .ahead) l) (a .defines)) at (a .stays p)) refl }
+    pub failing-end : left ≤ 0 → FieldsFailing s₁ s₂ t₁ t₂ r₁ r₂ required 0
+    failing-end l = record { tells = λ p. subst (Fails s₂ t₂ r₂ 0) (rw (fields-end (a .ahead) l) at (a .stays p)) refl }
 
     module _ (l : 0 < left) where
-      abbrev here-member : MemberHere s₂ t₂ here (a .rest)
-      here-member = member-here (a .ahead) l
+      abbrev field : FieldHere s₂ t₂ r₂ here left (a .fields)
+      field = field-here (a .ahead) l
 
-      abbrev name : List ℕ
-      name = nameOf s₂ (word t₂ here 1) (word t₂ here 2)
+      field-at : FieldAt s₂ t₂ r₂ here (nameOf s₂ (word t₂ here 1) (word t₂ here 2)) (bare (field .row .definition))
+      field-at = record { name = field .name; quoted = field .quoted; is = refl; value = field .row; defines = refl; less = field .less }
 
-      -- its definition, and the fields behind it
-      added : Added (word t₂ here 1) name (definitionAt s₂ (here-member .value .tree)) (fieldsAt s₂ (here-member .others)) (a .fields)
-      added = added-fine (word t₂ here 1) name _ _ (a .fields) (sym (ap (fieldsAt s₂) (here-member .is)) ∙ a .defines)
-
-      pub field-less : word t₂ (here + 1) 4 < word t₂ r₂ 4
-      field-less = omega (arith, row (here-member .value) .subtree, a .less, ap sizesMembers (here-member .is))
-
-      field-at : FieldAt s₂ t₂ r₂ here name (bare (added .definition))
-      field-at = record {
-        name = here-member .in-table;
-        quoted = here-member .quoted;
-        is = refl;
-        value = record { row = here-member .value; definition = added .definition; defines = added .defines };
-        defines = refl;
-        less = field-less;
-      }
-
-      field-with : DefinedRow s₁ t₁ r₁ → FieldPairing s₁ s₂ t₁ t₂ r₁ here
-      field-with d = record { new = d; name = field-at .name; quoted = field-at .quoted; old = field-at .value }
+      abbrev with-new : DefinedRow s₁ t₁ r₁ → FieldPairing s₁ s₂ t₁ t₂ r₁ here
+      with-new d = record { new = d; name = field .name; quoted = field .quoted; old = field .row }
 
       pub field-pair : FieldPairing s₁ s₂ t₁ t₂ r₁ here
-      field-pair = field-with (a .given .new)
+      field-pair = with-new (a .given .new)
+
+      pub field-less : word t₂ (here + 1) 4 < partRows t₂ r₂
+      field-less = omega (arith, field .less, part-rows t₂ r₂ (a .present))
 
       module _ {b : Bool} (h : FieldDecided s₁ s₂ t₁ t₂ r₁ here required b) where
         -- this field where it fails, and else the first of those behind it
         all-fields : (p : FieldsPairing s₁ s₂ t₁ t₂ r₁ r₂)
-            → cond b (firstFailing required (bare (p .new .definition)) (bareFields (added .others))) (some (name, bare (added .definition)))
-            ≡ firstFailing required (bare (p .new .definition)) (bareFields (p .old .fields))
-        unfolding field-with field-at
-        all-fields p =
-            let d = bare (p .new .definition) in
-            ap (λ (b : Bool). cond b (firstFailing required d (bareFields (added .others))) (some (name, bare (added .definition)))) (h .tells (field-with (p .new)))
-            ∙ sym (ap (λ (fs : LocatedFields). firstFailing required d (bareFields fs)) (added .adds)) ∙ a .stays p
+            → cond b (failing required p (field .others)) (some (nameOf s₂ (word t₂ here 1) (word t₂ here 2), bare (field .row .definition)))
+            ≡ failing required p (p .old .fields)
+        all-fields p = rw (h .tells (with-new (p .new))) (sym (ap (firstFailing required (bare (p .new .definition))) (field .is)) ∙ a .stays p)
 
         pub field-fails : b ≡ false → FieldsFailing s₁ s₂ t₁ t₂ r₁ r₂ required here
         field-fails e = record { tells = λ p. subst (Fails s₂ t₂ r₂ here) (rw e at (all-fields p)) (a .past, field-at) }
@@ -107,51 +86,54 @@ module _ {s₁ s₂ t₁ t₂ : List ℕ} {r₁ r₂ : ℕ} {required : Bool} wh
         pub field-next : b ≡ true → {x : Record} → Reads t₂ (here + 1) x → InFields s₁ s₂ t₁ t₂ r₁ r₂ required (x .next) (left - 1)
         field-next e p = record {
           given = a .given;
-          rest = here-member .others;
-          ahead = members-next (a .ahead) here-member (p .next);
+          present = a .present;
           past = omega (arith, p .next);
-          fields = added .others;
-          defines = added .define;
-          less = omega (arith, a .less, ap sizesMembers (here-member .is));
+          fields = field .others;
+          ahead = field .behind p;
           stays = λ q. (rw e at (all-fields q));
         }
 
 -- the same where what the new definition has under each name was found before, in vs: i fields of `count` are compared
 pub record InWide (s₁ s₂ t₁ t₂ : List ℕ) (r₁ r₂ : ℕ) (required : Bool) (vs : List ℕ) (count i here : ℕ) : Type 0 where
   pub few : count ≤ mostNames
-  pub ahead : InFields s₁ s₂ t₁ t₂ r₁ r₂ required here (count - i)
-  pub matched : Answers (λ n v. FindsUnder s₁ t₁ r₁ n required v) s₂ (ahead .rest) vs i (count - i)
+  pub left : ℕ
+  pub counts : i + left ≡ count
+  pub ahead : InFields s₁ s₂ t₁ t₂ r₁ r₂ required here left
+  pub matched : Answers (λ n v. FindsUnder s₁ t₁ r₁ n required v) s₂ (ahead .ahead .rest) vs i left
 
 module _ {s₁ s₂ t₁ t₂ : List ℕ} {r₁ r₂ : ℕ} {required : Bool} {vs : List ℕ} {count : ℕ} where
   pub wide-start : (p : FieldsPairing s₁ s₂ t₁ t₂ r₁ r₂) → 0 < r₂ → count ≡ word t₂ r₂ 3 → count ≤ mostNames → MatchesUnder s₁ t₁ r₁ s₂ t₂ r₂ required vs
       → InWide s₁ s₂ t₁ t₂ r₁ r₂ required vs count 0 (r₂ + 1)
-  unfolding fields-start
+  unfolding failing-start
   wide-start p l e few m =
       let o = part-object (p .old .part) l in
       let c = members-start o e .counts in
-      record { few = few; ahead = fields-start p l (omega arith); matched = answers-start (λ j h. m .tells o j (omega arith)) }
+      record { few = few; left = count; counts = omega arith; ahead = failing-start p l e; matched = answers-start (λ j h. m .tells o j (omega arith)) }
 
   module _ {i here : ℕ} (a : InWide s₁ s₂ t₁ t₂ r₁ r₂ required vs count i here) where
     pub wide-end : count ≤ i → FieldsFailing s₁ s₂ t₁ t₂ r₁ r₂ required 0
-    wide-end l = fields-end (a .ahead) (omega arith)
+    wide-end l = failing-end (a .ahead) (omega arith)
 
     module _ (l : i < count) where
-      pub wide-some : 0 < count - i
+      pub wide-some : 0 < a .left
       wide-some = omega arith
 
+      abbrev member : MemberHere s₂ t₂ here (a .ahead .ahead .rest)
+      member = member-here (a .ahead .ahead .ahead) wide-some
+
       pub wide-found : FindsUnder s₁ t₁ r₁ (nameOf s₂ (word t₂ here 1) (word t₂ here 2)) required (getD vs i 0)
-      wide-found = answers-here (a .matched) (here-member (a .ahead) wide-some) wide-some
+      wide-found = answers-here (a .matched) member wide-some
 
       pub wide-next : {b : Bool} → FieldDecided s₁ s₂ t₁ t₂ r₁ here required b → b ≡ true → {x : Record} → Reads t₂ (here + 1) x
           → InWide s₁ s₂ t₁ t₂ r₁ r₂ required vs count (i + 1) (x .next)
       unfolding field-next
-      wide-next h e p =
-          let z : count - i - 1 ≡ count - (i + 1) = omega arith in
-          record {
-            few = a .few;
-            ahead = rw z at (field-next (a .ahead) wide-some h e p);
-            matched = rw z at (answers-next (a .matched) (here-member (a .ahead) wide-some));
-          }
+      wide-next h e p = record {
+        few = a .few;
+        left = a .left - 1;
+        counts = omega arith;
+        ahead = field-next (a .ahead) wide-some h e p;
+        matched = answers-next (a .matched) member;
+      }
 
 -- ---- one field: v was found for its name in the new definition
 
@@ -184,7 +166,8 @@ module _ {s₁ s₂ t₁ t₂ : List ℕ} {r₁ r₂ : ℕ} {required : Bool} {v
         → cond b false (subtype (named JSON) (bare (p .old .definition))) ≡ fieldSubtype required (has p) (bare (p .old .definition))
     without p e = rw (← e) (go (has p) (gives p))
       where
-        go : (o : Option Def) → Gives s₁ t₁ v o → cond required false (subtype (named JSON) (bare (p .old .definition))) ≡ fieldSubtype required o (bare (p .old .definition))
+        go : (o : Option Def) → Gives s₁ t₁ v o
+            → cond required false (subtype (named JSON) (bare (p .old .definition))) ≡ fieldSubtype required o (bare (p .old .definition))
         go none g = refl
         go (some d) g = absurd (omega arith)
 

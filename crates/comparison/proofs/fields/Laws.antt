@@ -1,4 +1,4 @@
--- Whether a new definition is carried to an old one, on plain values: one law for each way out of the functions of `comparing` (01, demand 3).
+-- The definition that one has under a name, by rows: a law for each way out of the look-ups of fields.rt.
 use Prim.Native.Nat.{ℕ, zero, suc, _+_, _≤_, _<_}
 use mathlib.Core.Path.{_≡_, refl, sym, ap, _∙_}
 use mathlib.Core.Bool.{Bool, true, false, cond}
@@ -14,14 +14,14 @@ use Rattle.syntax.specs.Rows.{countMembers}
 use Rattle.syntax.specs.Holding.{word, PlacedMembers}
 use Rattle.definitions.specs.Definitions.{LocatedFields, no-field, fine, definitionAt, fieldsAt, bare, bareFields}
 use Rattle.rows.specs.Finding.{lookup, Agrees, Finds}
-use Rattle.rows.specs.Records.{ObjectRow}
+use Rattle.rows.specs.Records.{InTable, ObjectRow}
 use Rattle.rows.specs.Matching.{mostNames, memberName, Matches}
-use Rattle.definitions.specs.Shapes.{DefinedRow, genericIn, GenericRow, FieldsRow}
+use Rattle.definitions.specs.Shapes.{DefinedRow, GenericRow}
 use Rattle.comparison.specs.Fields.{fieldNamed, orField, Gives, FindsField, FindsUnder, MatchesFields, MatchesUnder}
 use Rattle.definitions.specs.declared.types.Generic.{Generic}
 use Rattle.definitions.specs.declared.types.Generic.the-variants.{Array, Map, Object, Other}
-use Rattle.definitions.proofs.Facts.{Added, added-fine, in-name, in-array, in-map, Fielded, in-object, fields-found}
-use Rattle.rows.proofs.Facts.{row, part-object, members-start}
+use Rattle.definitions.proofs.Facts.{Added, added-fine, in-name, in-array, in-map, object-fields, required-fields, optional-fields, of-kind}
+use Rattle.rows.proofs.Facts.{in-table, part-object, members-start}
 
 -- ---- the definition under a name
 
@@ -70,36 +70,27 @@ module _ (s t : List ℕ) (v : ℕ) where
   gives-second (some d) y w g l h = absurd (omega arith)
 
 module _ {s t : List ℕ} {r : ℕ} (o : GenericRow s t r Object) where
-  -- the fields of the Object at row r, and its body
-  abbrev pub object-fields : (d : DefinedRow s t r) → Fielded s t r (bare (d .definition))
-  object-fields d = in-object d (o .tells d)
-
-  abbrev pub object-body : DefinedRow s t r → ObjectRow s t (r + 2)
-  object-body d = object-fields d .body .object
-
-  abbrev pub required-fields : {v : ℕ} → Finds s t (r + 2) (text "required") v → DefinedRow s t r → FieldsRow s t v
-  required-fields f d = fields-found (object-fields d .body) f (object-fields d .body .first)
-
-  abbrev pub optional-fields : {v : ℕ} → Finds s t (r + 2) (text "optional") v → DefinedRow s t r → FieldsRow s t v
-  optional-fields f d = fields-found (object-fields d .body) f (object-fields d .body .second)
-
   abbrev firsts : List ℕ → DefinedRow s t r → Option Def
-  firsts key d = fieldNamed key (bareFields (object-fields d .required))
+  firsts key d = fieldNamed key (bareFields (object-fields o d .required))
 
   abbrev seconds : List ℕ → DefinedRow s t r → Option Def
-  seconds key d = fieldNamed key (bareFields (object-fields d .optional))
+  seconds key d = fieldNamed key (bareFields (object-fields o d .optional))
 
   -- `find_in_object`: v₁ is the row of "required", and v what was found there
   module _ {key : List ℕ} {required : Bool} {v₁ v : ℕ} (f : Finds s t (r + 2) (text "required") v₁) (h : FindsField s t v₁ key v) where
     pub in-required : 0 < v → FindsUnder s t r key required v
-    in-required l = record { tells = λ d. rw (object-fields d .is) (gives-first s t v required (firsts key d) (seconds key d) (h .tells (required-fields f d)) l) }
+    in-required l = record {
+      tells = λ d. rw (object-fields o d .is) (gives-first s t v required (firsts key d) (seconds key d) (h .tells (required-fields o f d)) l);
+    }
 
     pub not-required : v ≤ 0 → required ≡ true → FindsUnder s t r key required 0
-    not-required l e = record { tells = λ d. rw (object-fields d .is, e) (gives-none s t v (firsts key d) (h .tells (required-fields f d)) l) }
+    not-required l e = record { tells = λ d. rw (object-fields o d .is, e) (gives-none s t v (firsts key d) (h .tells (required-fields o f d)) l) }
 
     pub in-optional : v ≤ 0 → required ≡ false → {v₂ w : ℕ} → Finds s t (r + 2) (text "optional") v₂ → FindsField s t v₂ key w → FindsUnder s t r key required w
     in-optional l e {w = w} g k = record {
-      tells = λ d. rw (object-fields d .is, e) (gives-second s t v (firsts key d) (seconds key d) w (h .tells (required-fields f d)) l (k .tells (optional-fields g d)));
+      tells = λ d.
+          (let first = h .tells (required-fields o f d) in
+          rw (object-fields o d .is, e) (gives-second s t v (firsts key d) (seconds key d) w first l (k .tells (optional-fields o g d))));
     }
 
 -- `match_fields`
@@ -116,8 +107,8 @@ module _ {s t : List ℕ} {r : ℕ} (o : GenericRow s t r Object) {key : List �
   required-only zero h e = not-required o f h (omega arith) e
   required-only (suc v) h e = in-required o f h (omega arith)
 
-  required-first : (v w : ℕ) → FindsField s t v₁ key v → required ≡ false → {v₂ : ℕ} → Finds s t (r + 2) (text "optional") v₂ → (v ≡ 0 → FindsField s t v₂ key w)
-      → (0 < v → w ≡ v) → FindsUnder s t r key required w
+  required-first : (v w : ℕ) → FindsField s t v₁ key v → required ≡ false → {v₂ : ℕ} → Finds s t (r + 2) (text "optional") v₂
+      → (v ≡ 0 → FindsField s t v₂ key w) → (0 < v → w ≡ v) → FindsUnder s t r key required w
   required-first zero w h e g k z = in-optional o f h (omega arith) e g (k refl)
   required-first (suc v) w h e g k z = rw (z (omega arith)) (in-required o f h (omega arith))
 
@@ -129,25 +120,26 @@ module _ {s₁ t₁ : List ℕ} {r₁ : ℕ} {s₂ t₂ : List ℕ} {r₂ : ℕ}
   pub under-required : {required : Bool} → required ≡ true → MatchesUnder s₁ t₁ r₁ s₂ t₂ r₂ required vs
   under-required e = record { tells = λ p j l. required-only o f (getD vs j 0) (first-found p j l) e }
 
-  pub under-any : {required : Bool} → required ≡ false → {v₂ : ℕ} → Finds s₁ t₁ (r₁ + 2) (text "optional") v₂ → {vs₂ : List ℕ} → MatchesFields s₁ t₁ v₂ s₂ t₂ r₂ vs vs₂
-      → MatchesUnder s₁ t₁ r₁ s₂ t₂ r₂ required vs₂
+  pub under-any : {required : Bool} → required ≡ false → {v₂ : ℕ} → Finds s₁ t₁ (r₁ + 2) (text "optional") v₂
+      → {vs₂ : List ℕ} → MatchesFields s₁ t₁ v₂ s₂ t₂ r₂ vs vs₂ → MatchesUnder s₁ t₁ r₁ s₂ t₂ r₂ required vs₂
   under-any e g {vs₂} k = record {
     tells = λ p j l. required-first o f (getD vs j 0) (getD vs₂ j 0) (first-found p j l) e g (k .fresh p j l) (k .kept p j l);
   }
 
 -- `find_under`
-abbrev pub of-kind : {s t : List ℕ} {r : ℕ} {g : Generic} → GenericRow s t r g → {k : Generic} → g ≡ k → (d : DefinedRow s t r) → k ≡ genericIn (d .definition)
-of-kind h e d = sym e ∙ h .tells d
+module _ {s t : List ℕ} {r : ℕ} {g : Generic} (h : GenericRow s t r g) where
+  -- the row of a Map's definition
+  pub map-inside : g ≡ Map → DefinedRow s t r → InTable t (r + 2)
+  map-inside e d = in-table (in-map d (of-kind h e d) .inner .row)
 
-module _ {s t : List ℕ} {r : ℕ} {g : Generic} (h : GenericRow s t r g) {key : List ℕ} {required : Bool} where
-  pub under-array : g ≡ Array → FindsUnder s t r key required 0
+  pub under-array : {key : List ℕ} {required : Bool} → g ≡ Array → FindsUnder s t r key required 0
   under-array e = record { tells = λ d. rw (in-array d (of-kind h e d) .is) refl }
 
-  pub under-name : g ≡ Other → FindsUnder s t r key required 0
+  pub under-name : {key : List ℕ} {required : Bool} → g ≡ Other → FindsUnder s t r key required 0
   under-name e = record { tells = λ d. rw (in-name d (of-kind h e d) .1) refl }
 
-  pub under-map-required : g ≡ Map → required ≡ true → FindsUnder s t r key required 0
+  pub under-map-required : {key : List ℕ} {required : Bool} → g ≡ Map → required ≡ true → FindsUnder s t r key required 0
   under-map-required e q = record { tells = λ d. rw (in-map d (of-kind h e d) .is, q) refl }
 
-  pub under-map : g ≡ Map → required ≡ false → FindsUnder s t r key required (r + 2)
+  pub under-map : {key : List ℕ} {required : Bool} → g ≡ Map → required ≡ false → FindsUnder s t r key required (r + 2)
   under-map e q = record { tells = λ d. (let m = in-map d (of-kind h e d) in rw (m .is, q) (omega arith, m .inner, refl)) }

@@ -1,4 +1,4 @@
--- Reading and accepting on plain values: how the answers of Check follow from those of its steps.
+-- How the answer of `accept` follows from those of its steps: reading a schema, then its first fault as a definition (01, "Three services").
 use Prim.Native.Nat.{ℕ, _≤_}
 use mathlib.Core.Path.{_≡_, refl, sym, ap, _∙_}
 use mathlib.Core.List.{List}
@@ -29,8 +29,11 @@ unfolding answerOf
 unread which w s (refused c p) n = refl
 unread which w s (parsed m e) n = go (leb (size m) (rowsIn w)) n
   where
-    go : (b : Bool) → (cond b (answer 0 0 0 (size m)) (answer 8 which 0 (size m)) .code ≡ 0 → ⊥)
-        → cond b (answer 0 0 0 (size m)) (answer 8 which 0 (size m)) ≡ acceptAnswer (cond b (definedAs which (definitionAt s m)) (not-accepted (answer 8 which 0 (size m))))
+    full : Answer
+    full = answer 8 which 0 (size m)
+
+    go : (b : Bool) → (cond b (answer 0 0 0 (size m)) full .code ≡ 0 → ⊥)
+        → cond b (answer 0 0 0 (size m)) full ≡ acceptAnswer (cond b (definedAs which (definitionAt s m)) (not-accepted full))
     go true f = absurd (f refl)
     go false f = refl
 
@@ -50,21 +53,36 @@ module _ (l : Limits) (which : ℕ) (s t : List ℕ) where
 module _ {l : Limits} {s t : List ℕ} (h : HasRead l s t) where
   -- its table holds its tree
   abbrev pub has-rows : Rowed s (tableOf t (readWithin l s)) 0
-  has-rows = record { tree = h .tree; holds = read-table _ _ s t (h .tree) (h .end) (h .reads) (h .room); placed = read-placed _ _ s (h .tree) (h .end) (h .reads) }
+  has-rows = record {
+    tree = h .tree;
+    holds = read-table _ _ s t (h .tree) (h .end) (h .reads) (h .room);
+    placed = read-placed _ _ s (h .tree) (h .end) (h .reads);
+  }
 
--- ---- a schema: a is the answer of reading it, and t₂ its table then
-module _ (which : ℕ) (s t : List ℕ) {a : Answer} {t₂ : List ℕ} (q : a ≡ answerOf which (length t) (readSchema s)) (y : t₂ ≡ tableOf t (readSchema s)) where
-  pub accept-unread : (a .code ≡ 0 → ⊥) → a ≡ acceptAnswer (accept which (length t) s)
+-- ---- a schema
+
+-- reading text number `which`, s, into the table t gave the answer a and the table t₂
+pub record SchemaRead (which : ℕ) (s t : List ℕ) (a : Answer) (t₂ : List ℕ) : Type 0 where
+  pub answers : a ≡ answerOf which (length t) (readSchema s)
+  pub rows : t₂ ≡ tableOf t (readSchema s)
+
+module _ {which : ℕ} {s t : List ℕ} {a : Answer} {t₂ : List ℕ} (r : SchemaRead which s t a t₂) where
+  -- what `accept` promises of an answer
+  abbrev Accepts : Answer → Type 0
+  Accepts b = (b ≡ acceptAnswer (accept which (length t) s)) × (t₂ ≡ tableOf t (readSchema s))
+
+  pub accept-unread : (a .code ≡ 0 → ⊥) → Accepts a
   unfolding accept
-  accept-unread n = q ∙ unread which (length t) s (readSchema s) (λ z. n (ap (λ (b : Answer). b .code) q ∙ z))
+  accept-unread n =
+      (r .answers ∙ unread which (length t) s (readSchema s) (λ z. n (ap (λ (b : Answer). b .code) (r .answers) ∙ z)), r .rows)
 
   module _ (z : a .code ≡ 0) where
     read : HasRead schemaLimits s t
-    read = has-read schemaLimits which s t (sym (ap (λ (b : Answer). b .code) q) ∙ z)
+    read = has-read schemaLimits which s t (sym (ap (λ (b : Answer). b .code) (r .answers)) ∙ z)
 
     pub accept-rowed : Rowed s t₂ 0
     unfolding read
-    accept-rowed = rw y (has-rows read)
+    accept-rowed = rw (r .rows) (has-rows read)
 
     accepts : accept which (length t) s ≡ definedAs which (definitionAt s (read .tree))
     unfolding accept
@@ -73,17 +91,17 @@ module _ (which : ℕ) (s t : List ℕ) {a : Answer} {t₂ : List ℕ} (q : a �
     module _ {f : Fault} (d : Defines s t₂ 0 f) where
       told : f ≡ faultOf (definitionAt s (read .tree))
       unfolding read
-      told = (rw y at d) .tells (has-rows read)
+      told = (rw (r .rows) at d) .tells (has-rows read)
 
-      pub accept-faulty : (f .code ≡ 0 → ⊥) → answer (f .code) which (f .place) 0 ≡ acceptAnswer (accept which (length t) s)
-      accept-faulty n = go (definitionAt s (read .tree)) told ∙ ap acceptAnswer (sym accepts)
+      pub accept-faulty : (f .code ≡ 0 → ⊥) → {b : Answer} → b ≡ answer (f .code) which (f .place) 0 → Accepts b
+      accept-faulty n q = (q ∙ go (definitionAt s (read .tree)) told ∙ ap acceptAnswer (sym accepts), r .rows)
         where
           go : (x : Defined Located) → f ≡ faultOf x → answer (f .code) which (f .place) 0 ≡ acceptAnswer (definedAs which x)
           go (faulty c p) e = rw e
           go (fine x) e = absurd (n (ap (λ (b : Fault). b .code) e))
 
-      pub accept-fine : f .code ≡ 0 → answer 0 0 0 0 ≡ acceptAnswer (accept which (length t) s)
-      accept-fine n = go (definitionAt s (read .tree)) refl told ∙ ap acceptAnswer (sym accepts)
+      pub accept-fine : f .code ≡ 0 → {b : Answer} → b ≡ answer 0 0 0 0 → Accepts b
+      accept-fine n q = (q ∙ go (definitionAt s (read .tree)) refl told ∙ ap acceptAnswer (sym accepts), r .rows)
         where
           go : (x : Defined Located) → definitionAt s (read .tree) ≡ x → f ≡ faultOf x → answer 0 0 0 0 ≡ acceptAnswer (definedAs which x)
           go (faulty c p) r e = absurd (omega (arith, fault-code s (read .tree) c p r, sym (ap (λ (b : Fault). b .code) e) ∙ n))

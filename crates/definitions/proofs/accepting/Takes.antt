@@ -1,4 +1,4 @@
--- Check answers 0 exactly where both texts are read with room, the schema is accepted and the document meets (01, "Three services", "Meeting").
+-- `accept` accepts exactly the texts that are read with room and are a definition, and that definition is the only one (01, "Three services").
 use Prim.Native.Nat.{ℕ, _≤_, _<_}
 use mathlib.Core.Path.{_≡_, refl, ap}
 use mathlib.Core.List.{List}
@@ -13,7 +13,7 @@ use Rattle.syntax.specs.Answer.{rowsIn}
 use Rattle.syntax.proofs.Theorems.{read-code}
 use Rattle.definitions.specs.Definitions.{Located, Defined, faulty, fine, definitionAt}
 use Rattle.definitions.specs.Accepting.{readSchema, Accepted, not-accepted, accepted, definedAs, acceptedAs, accept, HasRoom}
-use Rattle.definitions.proofs.definitions.Faults.{fault-code}
+use Rattle.definitions.proofs.definitions.Faults.{never, fault-code}
 
 -- the ways of what was read
 pub by-parse : {A : Type 0} (P : Parse A → Type 0) (o : Parse A)
@@ -29,7 +29,7 @@ by-defined P (fine a) f g = g a refl
 -- what is read with room is one tree
 module _ {o : Parse Node} {w : ℕ} where
   pub refused-none : {n : Node} {c p : ℕ} → o ≡ refused c p → HasRoom o w n → ⊥
-  refused-none q h = let x = h .reads in let z : _≡_ {A = ℕ} 0 1 = cc in omega arith
+  refused-none q h = let x = h .reads in never (cc)
 
   pub one-tree : {n m : Node} {e : ℕ} → o ≡ parsed n e → HasRoom o w m → n ≡ m
   one-tree q h = let x = h .reads in cc
@@ -57,7 +57,7 @@ module _ (which w : ℕ) (s : List ℕ) where
       (λ c p q. (omega (arith, read-code _ _ s c p q), λ d t. refused-none q (t .read)))
       (λ n e q. both Way (leb (size n) (rowsIn w))
       (λ l. by-defined (λ o. Way (definedAs which o)) (definitionAt s n)
-      (λ c p r. (omega (arith, fault-code s n c p r), λ d t. (let x = one-tree q (t .read) in let y = t .defines in let z : _≡_ {A = ℕ} 0 1 = cc in omega arith)))
+      (λ c p r. (omega (arith, fault-code s n c p r), λ d t. (let x = one-tree q (t .read) in let y = t .defines in never (cc))))
       (λ d r. (
         record { tree = n; read = record { end = e; reads = q; room = leb-true _ _ l }; defines = r },
         λ d₂ t. (let x = one-tree q (t .read) in let y = t .defines in cc),

@@ -19,6 +19,10 @@ use Rattle.definitions.specs.Definitions.{mapped, typeAt, scalarAt, isLa
 use Rattle.definitions.specs.Definitions.{bothFields, unshared, joinedAt, constructed, definitionAt, singleAt, bodyAt, partAt, partOf}
 use Rattle.definitions.specs.Definitions.{fieldsAt}
 
+-- two constructors are never equal: `never (cc)`
+pub never : {A : Type 0} → _≡_ {A = ℕ} 0 1 → A
+never z = absurd (omega arith)
+
 -- ---- the first byte
 
 -- "definition's first byte"
@@ -49,15 +53,15 @@ scalar-starts s Quoted f e = type-starts (namedBy (nameOf s f e))
     type-starts none = tt
     type-starts (some t) = refl
 
-fields-start : (p : ℕ) (x : Option ℕ) (r o : Defined LocatedFields) → Starts p (unshared x (bothFields p r o))
-fields-start p (some q) r o = tt
-fields-start p none (faulty c q) o = tt
-fields-start p none (fine r) o = mapped-starts p (object-at p r) (λ _. refl) o
+both-starts : (p : ℕ) (x : Option ℕ) (r o : Defined LocatedFields) → Starts p (unshared x (bothFields p r o))
+both-starts p (some q) r o = tt
+both-starts p none (faulty c q) o = tt
+both-starts p none (fine r) o = mapped-starts p (object-at p r) (λ _. refl) o
 
 joined-starts : (s : List ℕ) (p : ℕ) (r o : Part) → Starts p (joinedAt s p r o)
 joined-starts s p (wrong q) o = tt
 joined-starts s p (members-with ms r) (wrong q) = tt
-joined-starts s p (members-with ms r) (members-with ns o) = fields-start p (sharedAt s ms ns) r o
+joined-starts s p (members-with ms r) (members-with ns o) = both-starts p (sharedAt s ms ns) r o
 
 body-starts : (s : List ℕ) (p : ℕ) (n : Node) → Starts p (bodyAt s p n)
 body-starts s p (scalar k f e) = tt
@@ -86,22 +90,26 @@ located-first s n d q = subst (Starts (placeOf n)) q (definition-starts s n)
 -- ---- codes and places
 
 -- a fault; X is what puts its place within the text
-record Fault (s : List ℕ) (X : Type 0) (c p : ℕ) : Type 0 where
+record FaultWithin (s : List ℕ) (X : Type 0) (c p : ℕ) : Type 0 where
   low : 10 ≤ c
   high : c ≤ 12
   within : X → p < length s
 
+abbrev pub Coded : {A : Type 0} → Defined A → Type 0
+Coded (faulty c p) = 0 < c
+Coded (fine a) = Unit
+
 module _ (s : List ℕ) where
-  fault-of : (X : Type 0) (c p : ℕ) → (10 ≤ c) × (c ≤ 12) → (X → p < length s) → Fault s X c p
+  fault-of : (X : Type 0) (c p : ℕ) → (10 ≤ c) × (c ≤ 12) → (X → p < length s) → FaultWithin s X c p
   fault-of X c p l h = record { low = l .0; high = l .1; within = h }
 
   -- the fault, if there is one
   abbrev AnyFault : {A : Type 0} → Type 0 → Defined A → Type 0
-  AnyFault X (faulty c p) = Fault s X c p
+  AnyFault X (faulty c p) = FaultWithin s X c p
   AnyFault X (fine a) = Unit
 
   -- what puts the place within the text may follow from something else
-  weaken-fault : (X Y : Type 0) → (Y → X) → (c p : ℕ) → Fault s X c p → Fault s Y c p
+  weaken-fault : (X Y : Type 0) → (Y → X) → (c p : ℕ) → FaultWithin s X c p → FaultWithin s Y c p
   weaken-fault X Y f c p h = record { low = h .low; high = h .high; within = λ y. h .within (f y) }
 
   weaken : {A : Type 0} (X Y : Type 0) → (Y → X) → (d : Defined A) → AnyFault X d → AnyFault Y d
@@ -141,7 +149,7 @@ module _ (s : List ℕ) where
 
   -- a part's members lie within the text too
   abbrev PartFault : Type 0 → Part → Type 0
-  PartFault X (wrong q) = Fault s X 10 q
+  PartFault X (wrong q) = FaultWithin s X 10 q
   PartFault X (members-with ms r) = (X → PlacedMembers s ms) × AnyFault X r
 
   weaken-part : (X Y : Type 0) → (Y → X) → (p : Part) → PartFault X p → PartFault Y p
@@ -168,7 +176,7 @@ module _ (s : List ℕ) where
   place-within (object f e ms) h = omega (arith, h .0, h .1)
 
   -- "Other kinds: 10."
-  wrong-kind : (n : Node) → Fault s (Placed s n) 10 (placeOf n)
+  wrong-kind : (n : Node) → FaultWithin s (Placed s n) 10 (placeOf n)
   wrong-kind n = fault-of (Placed s n) 10 (placeOf n) (omega arith) (place-within n)
 
   scalar-fault : (k : Kind) (f e : ℕ) → AnyFault (Placed s (scalar k f e)) (scalarAt s k f e)
@@ -188,7 +196,8 @@ module _ (s : List ℕ) where
     definition-fault (scalar k f e) = scalar-fault k f e
     definition-fault (array f e ns) = wrong-kind (array f e ns)
     definition-fault (object f e ms) =
-        weaken ((f < length s) × PlacedMembers s ms) (Placed s (object f e ms)) (λ h. (place-within (object f e ms) h, h .2)) (singleAt s f ms) (single-fault f ms)
+        let X = Placed s (object f e ms) in
+        weaken ((f < length s) × PlacedMembers s ms) X (λ h. (place-within (object f e ms) h, h .2)) (singleAt s f ms) (single-fault f ms)
 
     single-fault : (p : ℕ) (ms : Members) → AnyFault ((p < length s) × PlacedMembers s ms) (singleAt s p ms)
     single-fault p no-member = fault-of _ 10 p (omega arith) (λ h. h .0)
@@ -205,7 +214,8 @@ module _ (s : List ℕ) where
     body-fault p (array f e ns) = wrong-kind (array f e ns)
     body-fault p (object f e ms) =
         let X = Placed s (object f e ms) in
-        let found : (k : List ℕ) → PartFault X (partAt s k ms) = λ k. weaken-part (PlacedMembers s ms) X (λ h. h .2) (partAt s k ms) (part-fault k ms) in
+        let found : (k : List ℕ) → PartFault X (partAt s k ms) =
+        λ k. weaken-part (PlacedMembers s ms) X (λ h. h .2) (partAt s k ms) (part-fault k ms) in
         joined-fault X p (partAt s (text "required") ms) (partAt s (text "optional") ms) (found (text "required")) (found (text "optional"))
 
     part-fault : (k : List ℕ) (ms : Members) → PartFault (PlacedMembers s ms) (partAt s k ms)
@@ -229,7 +239,7 @@ module _ (s : List ℕ) where
         (weaken (Placed s n) X (λ h. h .1) (definitionAt s n) (definition-fault n))
         (weaken (PlacedMembers s ms) X (λ h. h .2) (fieldsAt s ms) (in-fault ms))
 
-  fault-at : (n : Node) (c p : ℕ) → definitionAt s n ≡ faulty c p → Fault s (Placed s n) c p
+  fault-at : (n : Node) (c p : ℕ) → definitionAt s n ≡ faulty c p → FaultWithin s (Placed s n) c p
   fault-at n c p q = subst (AnyFault (Placed s n)) q (definition-fault n)
 
   pub fault-code : (n : Node) (c p : ℕ) → definitionAt s n ≡ faulty c p → (10 ≤ c) × (c ≤ 12)
@@ -237,3 +247,14 @@ module _ (s : List ℕ) where
 
   pub fault-placed : (n : Node) (c p : ℕ) → Placed s n → definitionAt s n ≡ faulty c p → p < length s
   fault-placed n c p h q = fault-at n c p q .within h
+
+  -- a fault's code is not 0
+  coded : {A : Type 0} (X : Type 0) (d : Defined A) → AnyFault X d → Coded d
+  coded X (faulty c p) h = omega (arith, h .low)
+  coded X (fine a) h = tt
+
+  pub definition-coded : (n : Node) → Coded (definitionAt s n)
+  definition-coded n = coded (Placed s n) (definitionAt s n) (definition-fault n)
+
+  pub fields-coded : (ms : Members) → Coded (fieldsAt s ms)
+  fields-coded ms = coded (PlacedMembers s ms) (fieldsAt s ms) (in-fault ms)

@@ -1,15 +1,13 @@
 -- A value has no fault exactly where it is a definition, and then the definition is that one, with places (01, "Definitions").
--- codes and places of faults, and the first byte of a definition
 use Prim.Native.Nat.{ℕ}
 use mathlib.Core.Path.{_≡_, refl, sym, ap, _∙_}
 use mathlib.Core.Bool.{Bool, true, false, not, cond, _&&_, _||_}
 use mathlib.Core.Option.{Option, none, some}
 use mathlib.Core.List.{List}
-use native.Mathlib.Omega.{arith}
 use Rattle.model.specs.Text.{text, same}
 use Rattle.model.specs.Definition.{Named, namedBy, Def, named, array-of, map-of, Fields, hasField, disjoint, isEmpty, definitionOf, single}
 use Rattle.model.specs.Definition.{objectOf, fieldsOf, fieldsIn, mapped as map-option, added as added-option, joined as joined-option}
-use Rattle.model.specs.Definition.{constructed as constructed-option, part as part-option}
+use Rattle.model.specs.Definition.{constructed as constructed-option, fieldsUnder as part-option}
 use Rattle.model.proofs.Basics.{both}
 use Rattle.tokens.specs.Tokens.{Kind, Null, False, True, Whole, Fractional, Quoted}
 use Rattle.syntax.specs.Tree.{Node, scalar, array, object, Members, no-member, member}
@@ -19,7 +17,7 @@ use Rattle.definitions.specs.Definitions.{Located, array-at, map-at, obj
 use Rattle.definitions.specs.Definitions.{Defined, faulty, fine, mapped, typeAt, scalarAt, isLast, added, hasNamed, sharedAt, Part}
 use Rattle.definitions.specs.Definitions.{wrong, members-with, bothFields, unshared, joinedAt, constructed, definitionAt, singleAt}
 use Rattle.definitions.specs.Definitions.{bodyAt, partAt, partOf, fieldsAt}
-pub use Rattle.definitions.proofs.definitions.Faults.{fault-code, fault-placed, firstByte, located-first, place-within}
+use Rattle.definitions.proofs.definitions.Faults.{never}
 
 -- ---- without places, and without what a fault says
 
@@ -75,8 +73,8 @@ pub record Added (p : ℕ) (n : List ℕ) (d : Defined Located) (fs : Defined Lo
 
 pub added-fine : (p : ℕ) (n : List ℕ) (d : Defined Located) (fs : Defined LocatedFields) (all : LocatedFields)
     → added p n d fs ≡ fine all → Added p n d fs all
-added-fine p n (faulty c q) fs all e = absurd (let z : _≡_ {A = ℕ} 0 1 = cc in omega arith)
-added-fine p n (fine d) (faulty c q) all e = absurd (let z : _≡_ {A = ℕ} 0 1 = cc in omega arith)
+added-fine p n (faulty c q) fs all e = never (cc)
+added-fine p n (fine d) (faulty c q) all e = never (cc)
 added-fine p n (fine d) (fine fs) all e = record { definition = d; others = fs; defines = refl; define = refl; adds = cc }
 
 abbrev isNone : Option ℕ → Bool
@@ -106,7 +104,7 @@ module _ (s : List ℕ) where
 
   -- ---- the body of an Object
 
-  -- the fields of a members-with are those that its members give
+  -- the fields of a part are those that its members give
   abbrev Honest : Part → Type 0
   Honest (wrong q) = Unit
   Honest (members-with ms r) = r ≡ fieldsAt s ms
@@ -155,7 +153,7 @@ module _ (s : List ℕ) where
   scalar-forgets Fractional f e = refl
   scalar-forgets Quoted f e = type-forgets f (namedBy (nameOf s f e))
 
-  -- a value that holds no other is no body and no members-with
+  -- a value that holds no other is no body and no part
   scalar-body : (k : Kind) (f e : ℕ) → objectOf (scalarOf s k f e) ≡ none
   scalar-body Null f e = refl
   scalar-body False f e = refl
@@ -219,7 +217,7 @@ module _ (s : List ℕ) where
   faulty-none n c p q = definition-forgets n ∙ ap forget q
 
   forget-some : (x : Defined Located) (y : Def) → forget x ≡ some y → (d : Located) × (x ≡ fine d) × (bare d ≡ y)
-  forget-some (faulty c p) y q = absurd (let z : _≡_ {A = ℕ} 0 1 = cc in omega arith)
+  forget-some (faulty c p) y q = never (cc)
   forget-some (fine d) y q = (d, refl, cc)
 
   pub some-defined : (n : Node) (x : Def) → definitionOf (valueOf s n) ≡ some x → (d : Located) × (definitionAt s n ≡ fine d) × (bare d ≡ x)

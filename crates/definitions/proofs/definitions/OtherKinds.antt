@@ -1,4 +1,4 @@
--- What a row says of its tree; then the members of an object and the elements of an array, one after the other.
+-- A value of another kind is no definition, no body of an Object, and no "required" or "optional" (01, "Definitions").
 use Prim.Native.Nat.{ℕ}
 use mathlib.Core.Path.{_≡_, refl}
 use mathlib.Core.List.{List}

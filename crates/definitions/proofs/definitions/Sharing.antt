@@ -1,10 +1,11 @@
--- The first name that two objects share, on plain values.
+-- The first name that two objects share: the invariants of the two loops of `first_shared`, and one law for each way out of a turn (01, "Definitions").
 use Prim.Native.Nat.{ℕ, _+_, _-_, _≤_, _<_}
-use mathlib.Core.Path.{_≡_, refl, sym, ap, ap₂, _∙_}
+use mathlib.Core.Path.{_≡_, refl, sym, ap, _∙_}
 use mathlib.Core.Bool.{Bool, true, false, cond, _||_}
 use mathlib.Core.Option.{Option, none, some}
 use mathlib.Core.List.{List}
 use Rattle.model.specs.Text.{same}
+use Rattle.chars.specs.Strings.{characters, part}
 use Rattle.syntax.specs.Tree.{Members, no-member, member}
 use Rattle.syntax.specs.Grammar.{nameOf}
 use Rattle.syntax.specs.Holding.{word}
@@ -14,10 +15,11 @@ use Rattle.rows.specs.declared.records.Record.{Record}
 use Rattle.definitions.specs.declared.definitions.Fault.{Fault}
 use Rattle.rows.proofs.Facts.{same-members, part-object, same-part, MembersLeft, MemberHere, members-start, member-here, members-next}
 use Rattle.rows.proofs.Facts.{members-end, member-read}
+use Rattle.definitions.proofs.definitions.Laws.{fault-is}
 
 -- ---- whether an object has a name: it was not among the members before row `here`
 
-pub record Hunting (s t : List ℕ) (q : ℕ) (key : List ℕ) (here left : ℕ) : Type 0 where
+pub record Searching (s t : List ℕ) (q : ℕ) (key : List ℕ) (here left : ℕ) : Type 0 where
   pub rest : Members
   pub ahead : MembersLeft s t here left rest
   pub stays : (o : ObjectRow s t q) → hasNamed s key (o .members) ≡ hasNamed s key rest
@@ -27,10 +29,10 @@ pub record Has (s t : List ℕ) (q : ℕ) (key : List ℕ) (b : Bool) : Type 0 w
   pub tells : (o : ObjectRow s t q) → hasNamed s key (o .members) ≡ b
 
 module _ {s t : List ℕ} {q : ℕ} {key : List ℕ} where
-  pub hunt : (o : ObjectRow s t q) {left : ℕ} → left ≡ word t q 3 → Hunting s t q key (q + 1) left
-  hunt o e = record { rest = o .members; ahead = members-start o e; stays = λ p. ap (hasNamed s key) (same-members p o) }
+  pub search-start : (o : ObjectRow s t q) {left : ℕ} → left ≡ word t q 3 → Searching s t q key (q + 1) left
+  search-start o e = record { rest = o .members; ahead = members-start o e; stays = λ p. ap (hasNamed s key) (same-members p o) }
 
-  module _ {here left : ℕ} (a : Hunting s t q key here left) where
+  module _ {here left : ℕ} (a : Searching s t q key here left) where
     pub none-has : left ≤ 0 → Has s t q key false
     none-has l = record { tells = λ o. a .stays o ∙ ap (hasNamed s key) (members-end (a .ahead) l) }
 
@@ -38,47 +40,59 @@ module _ {s t : List ℕ} {q : ℕ} {key : List ℕ} where
       pub other : MemberHere s t here (a .rest)
       other = member-here (a .ahead) l
 
-      module _ {x : Record} (p : Reads t here x) where
-        has-splits : (b : Bool) → same key (nameOf s (x .first) (x .end)) ≡ b → hasNamed s key (a .rest) ≡ (b || hasNamed s key (other .others))
-        has-splits b e = ap (hasNamed s key) (member-read other p) ∙ rw e
+      -- its name was read, the bytes k between its quotes, and b says whether it is the key
+      module _ {x : Record} (p : Reads t here x) {k : List ℕ} (e : k ≡ part s (x .first + 1) (x .end - 1)) {b : Bool} (h : b ≡ same key (characters k)) where
+        has-splits : (c : Bool) → b ≡ c → hasNamed s key (a .rest) ≡ (c || hasNamed s key (other .others))
+        has-splits c i =
+            let z : same key (nameOf s (x .first) (x .end)) ≡ c = sym (h ∙ ap (λ (k : List ℕ). same key (characters k)) e) ∙ i in
+            ap (hasNamed s key) (member-read other p) ∙ rw z
 
-        pub one-has : same key (nameOf s (x .first) (x .end)) ≡ true → Has s t q key true
-        one-has e = record { tells = λ o. a .stays o ∙ has-splits true e }
+        pub one-has : b ≡ true → Has s t q key true
+        one-has i = record { tells = λ o. a .stays o ∙ has-splits true i }
 
-        pub hunt-on : same key (nameOf s (x .first) (x .end)) ≡ false → {r : ℕ} → r ≡ here + 1 + word t (here + 1) 4 → Hunting s t q key r (left - 1)
-        hunt-on e i = record { rest = other .others; ahead = members-next (a .ahead) other i; stays = λ o. a .stays o ∙ has-splits false e }
+        pub search-next : b ≡ false → {r : ℕ} → r ≡ here + 1 + word t (here + 1) 4 → Searching s t q key r (left - 1)
+        search-next i j = record { rest = other .others; ahead = members-next (a .ahead) other j; stays = λ o. a .stays o ∙ has-splits false i }
 
 -- ---- the first name of the second object that the first has: none before row `here`
 
-pub record Comparing (s t : List ℕ) (q p here left : ℕ) : Type 0 where
+-- both objects are there, the first at row q with `others` members; `left` members of the second are not yet seen
+pub record Comparing (s t : List ℕ) (q p others here left : ℕ) : Type 0 where
+  pub there : 0 < q
+  pub required : ObjectRow s t q
+  pub counts : others ≡ word t q 3
   pub rest : Members
   pub ahead : MembersLeft s t here left rest
   pub stays : (r : PartRow s t q) (o : PartRow s t p) → sharedAt s (r .members) (o .members) ≡ sharedAt s (r .members) rest
 
-shared-none : (s : List ℕ) (ms : Members) → sharedAt s no-member ms ≡ none
-shared-none s no-member = refl
-shared-none s (member f e n ms) = shared-none s ms
-
-abbrev fault : ℕ → ℕ → Fault
-fault code place = record { code = code; place = place }
+empty-shares : (s : List ℕ) (ms : Members) → sharedAt s no-member ms ≡ none
+empty-shares s no-member = refl
+empty-shares s (member f e n ms) = empty-shares s ms
 
 module _ {s t : List ℕ} {q p : ℕ} where
   -- a fault by its parts
   module _ {f : Fault} where
     shares : (x : Option ℕ) → (f .code ≡ sharedFault x .code) × (f .place ≡ sharedFault x .place)
         → ((r : PartRow s t q) (o : PartRow s t p) → sharedAt s (r .members) (o .members) ≡ x) → Shares s t q p f
-    shares x e h = record { tells = λ r o. ap₂ fault (e .0) (e .1) ∙ sym (ap sharedFault (h r o)) }
+    shares x e h = record { tells = λ r o. fault-is f e ∙ sym (ap sharedFault (h r o)) }
 
     pub no-required : q ≡ 0 → (f .code ≡ 0) × (f .place ≡ 0) → Shares s t q p f
-    no-required z e = shares none e (λ r o. ap (λ (ms : Members). sharedAt s ms (o .members)) (r .absent z) ∙ shared-none s (o .members))
+    no-required z e = shares none e (λ r o. ap (λ (ms : Members). sharedAt s ms (o .members)) (r .absent z) ∙ empty-shares s (o .members))
 
     pub no-optional : p ≡ 0 → (f .code ≡ 0) × (f .place ≡ 0) → Shares s t q p f
     no-optional z e = shares none e (λ r o. ap (sharedAt s (r .members)) (o .absent z))
 
-  pub compare : (o : PartRow s t p) → 0 < p → {left : ℕ} → left ≡ word t p 3 → Comparing s t q p (p + 1) left
-  compare o l e = record { rest = o .members; ahead = members-start (part-object o l) e; stays = λ r i. ap (sharedAt s (r .members)) (same-part i o) }
+  pub compare-start : (r : PartRow s t q) → 0 < q → {others : ℕ} → others ≡ word t q 3
+      → (o : PartRow s t p) → 0 < p → {left : ℕ} → left ≡ word t p 3 → Comparing s t q p others (p + 1) left
+  compare-start r k c o l e = record {
+    there = k;
+    required = part-object r k;
+    counts = c;
+    rest = o .members;
+    ahead = members-start (part-object o l) e;
+    stays = λ r i. ap (sharedAt s (r .members)) (same-part i o);
+  }
 
-  module _ {here left : ℕ} (a : Comparing s t q p here left) where
+  module _ {others here left : ℕ} (a : Comparing s t q p others here left) where
     pub compared : left ≤ 0 → {f : Fault} → (f .code ≡ 0) × (f .place ≡ 0) → Shares s t q p f
     compared l e = shares none e (λ r o. a .stays r o ∙ ap (sharedAt s (r .members)) (members-end (a .ahead) l))
 
@@ -86,13 +100,21 @@ module _ {s t : List ℕ} {q p : ℕ} where
       pub candidate : MemberHere s t here (a .rest)
       candidate = member-here (a .ahead) l
 
-      module _ {x : Record} (i : Reads t here x) (m : 0 < q) where
-        splits : {b : Bool} → Has s t q (nameOf s (x .first) (x .end)) b
+      -- its name was read, the bytes k between its quotes
+      module _ {x : Record} (i : Reads t here x) {k : List ℕ} (e : k ≡ part s (x .first + 1) (x .end - 1)) where
+        splits : {b : Bool} → Has s t q (characters k) b
             → (r : PartRow s t q) → sharedAt s (r .members) (a .rest) ≡ cond b (some (x .first)) (sharedAt s (r .members) (candidate .others))
-        splits h r = ap (sharedAt s (r .members)) (member-read candidate i) ∙ rw (h .tells (part-object r m))
+        splits h r = ap (sharedAt s (r .members)) (member-read candidate i) ∙ rw (sym (ap characters e), h .tells (part-object r (a .there)))
 
-        pub shared : Has s t q (nameOf s (x .first) (x .end)) true → {f : Fault} → (f .code ≡ 12) × (f .place ≡ x .first) → Shares s t q p f
-        shared h e = shares (some (x .first)) e (λ r o. a .stays r o ∙ splits h r)
+        pub shared : Has s t q (characters k) true → {y : Record} → Reads t here y → {f : Fault} → (f .code ≡ 12) × (f .place ≡ y .first) → Shares s t q p f
+        shared h j z = shares (some (x .first)) (z .0, z .1 ∙ j .first ∙ sym (i .first)) (λ r o. a .stays r o ∙ splits h r)
 
-        pub compare-on : Has s t q (nameOf s (x .first) (x .end)) false → {r′ : ℕ} → r′ ≡ here + 1 + word t (here + 1) 4 → Comparing s t q p r′ (left - 1)
-        compare-on h e = record { rest = candidate .others; ahead = members-next (a .ahead) candidate e; stays = λ r o. a .stays r o ∙ splits h r }
+        pub compare-next : Has s t q (characters k) false → {r′ : ℕ} → r′ ≡ here + 1 + word t (here + 1) 4 → Comparing s t q p others r′ (left - 1)
+        compare-next h j = record {
+          there = a .there;
+          required = a .required;
+          counts = a .counts;
+          rest = candidate .others;
+          ahead = members-next (a .ahead) candidate j;
+          stays = λ r o. a .stays r o ∙ splits h r;
+        }

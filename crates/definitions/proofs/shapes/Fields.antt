@@ -1,6 +1,6 @@
 -- The fields of an Object definition by their rows, one after the other.
 use Prim.Native.Nat.{ℕ, _+_, _-_, _≤_, _<_}
-use mathlib.Core.Path.{_≡_, sym, ap, _∙_}
+use mathlib.Core.Path.{_≡_, refl, sym, ap, _∙_}
 use mathlib.Core.List.{List}
 use native.Mathlib.Omega.{arith}
 use Rattle.model.specs.Definition.{fcons}
@@ -8,7 +8,7 @@ use Rattle.syntax.specs.Tree.{Members, no-member}
 use Rattle.syntax.specs.Grammar.{nameOf}
 use Rattle.syntax.specs.Rows.{sizesMembers}
 use Rattle.syntax.specs.Holding.{word}
-use Rattle.definitions.specs.Definitions.{LocatedFields, no-field, fine, definitionAt, fieldsAt, bare, bareFields}
+use Rattle.definitions.specs.Definitions.{LocatedFields, no-field, field, fine, definitionAt, fieldsAt, bare, bareFields}
 use Rattle.rows.specs.Records.{Reads, InTable}
 use Rattle.definitions.specs.Shapes.{DefinedRow, FieldsRow}
 use Rattle.rows.specs.declared.records.Record.{Record}
@@ -43,6 +43,7 @@ pub record FieldHere (s t : List ℕ) (r here left : ℕ) (fields : LocatedField
   pub row : DefinedRow s t (here + 1)
   pub less : word t (here + 1) 4 < word t r 4
   pub others : LocatedFields
+  pub adds : fields ≡ field (word t here 1) (nameOf s (word t here 1) (word t here 2)) (row .definition) others
   pub is : bareFields fields ≡ fcons (nameOf s (word t here 1) (word t here 2)) (bare (row .definition)) (bareFields others)
   pub behind : {x : Record} → Reads t (here + 1) x → FieldsLeft s t r (x .next) (left - 1) others
 
@@ -50,16 +51,21 @@ module _ {s t : List ℕ} {r : ℕ} where
   pub fields-none : r ≡ 0 → (f : FieldsRow s t r) → f .fields ≡ no-field
   fields-none e f = fields-empty s (f .part .absent e) (f .defines)
 
-  pub fields-start : (f : FieldsRow s t r) → 0 < r → {left : ℕ} → left ≡ word t r 3 → FieldsLeft s t r (r + 1) left (f .fields)
+  abbrev pub fields-start : (f : FieldsRow s t r) → 0 < r → {left : ℕ} → left ≡ word t r 3 → FieldsLeft s t r (r + 1) left (f .fields)
   fields-start f l e =
       let o = part-object (f .part) l in
       record { rest = f .part .members; ahead = members-start o e; defines = f .defines; less = omega (arith, row (as-row o) .subtree) }
+
+  -- all members are ahead
+  pub start-rest : (f : FieldsRow s t r) (l : 0 < r) {left : ℕ} (e : left ≡ word t r 3) → fields-start f l e .rest ≡ f .part .members
+  unfolding fields-start
+  start-rest f l e = refl
 
   module _ {here left : ℕ} {fields : LocatedFields} (a : FieldsLeft s t r here left fields) where
     pub fields-end : left ≤ 0 → fields ≡ no-field
     fields-end l = fields-empty s (members-end (a .ahead) l) (a .defines)
 
-    pub field-here : 0 < left → FieldHere s t r here left fields
+    abbrev pub field-here : 0 < left → FieldHere s t r here left fields
     field-here l =
         let m = member-here (a .ahead) l in
         let k = added-fine (word t here 1) (nameOf s (word t here 1) (word t here 2)) _ _ fields (sym (ap (fieldsAt s) (m .is)) ∙ a .defines) in
@@ -69,6 +75,7 @@ module _ {s t : List ℕ} {r : ℕ} where
           row = record { row = m .value; definition = k .definition; defines = k .defines };
           less = omega (arith, row (m .value) .subtree, a .less, ap sizesMembers (m .is));
           others = k .others;
+          adds = k .adds;
           is = ap bareFields (k .adds);
           behind = λ p. record {
             rest = m .others;
@@ -77,3 +84,8 @@ module _ {s t : List ℕ} {r : ℕ} where
             less = omega (arith, a .less, ap sizesMembers (m .is));
           };
         }
+
+    -- the members behind it are those of the fields behind it
+    pub behind-rest : (l : 0 < left) {x : Record} (p : Reads t (here + 1) x) → field-here l .behind p .rest ≡ member-here (a .ahead) l .others
+    unfolding field-here
+    behind-rest l p = refl

@@ -1,12 +1,13 @@
--- The words that names are compared with are spelled plainly, and what a comparison with one says.
+-- The words that names are compared with are spelled plainly, and what a name that is one of them names.
 use Prim.Native.Nat.{ℕ}
-use mathlib.Core.Path.{_≡_, refl, sym, _∙_}
-use mathlib.Core.Bool.{Bool, true, false}
+use mathlib.Core.Path.{_≡_, refl, ap}
+use mathlib.Core.Bool.{true}
 use mathlib.Core.List.{List}
 use Rattle.model.specs.Text.{text, same}
-use Rattle.chars.specs.Bytes.{codeOf, digit, named, lowest, highest, sixBits}
-use Rattle.chars.specs.Characters.{stopAt, wrongAt, hexPair, partnerAt, restAt, unicodeAt, escapeAt, twoAt, threeAt, fourAt, charFrom, charAt}
+use Rattle.chars.specs.Characters.{charFrom, charAt}
 use Rattle.chars.specs.Strings.{charsFrom, charsAt, characters}
+use Rattle.model.specs.Definition.{namedBy}
+use Rattle.definitions.specs.Types.{typeName, genericOf}
 use Rattle.chars.proofs.Facts.{same-true}
 
 pub record Spelled : Type 0 where
@@ -24,7 +25,7 @@ pub record Spelled : Type 0 where
   pub optional : characters (text "optional") ≡ text "optional"
 
 pub spelled : Spelled
-unfolding codeOf digit named lowest highest sixBits stopAt wrongAt hexPair partnerAt restAt unicodeAt escapeAt twoAt threeAt fourAt charFrom charAt charsFrom charsAt
+unfolding charFrom charAt charsFrom charsAt
 spelled = record {
   json = refl;
   schema = refl;
@@ -40,13 +41,10 @@ spelled = record {
   optional = refl;
 }
 
--- b says whether the name k is the word w
-pub record Test (k w : List ℕ) (b : Bool) : Type 0 where
-  pub says : b ≡ same k w
+-- a name that is the word w names what w names
+module _ (w n : List ℕ) (h : same n w ≡ true) where
+  pub type-by : typeName (namedBy n) ≡ typeName (namedBy w)
+  type-by = ap (λ (k : List ℕ). typeName (namedBy k)) (same-true n w h)
 
-module _ {k w : List ℕ} {b : Bool} (t : Test k w b) where
-  pub is-word : b ≡ true → k ≡ w
-  is-word e = same-true k w (sym (t .says) ∙ e)
-
-  pub no-word : b ≡ false → same k w ≡ false
-  no-word e = sym (t .says) ∙ e
+  pub generic-by : genericOf n ≡ genericOf w
+  generic-by = ap genericOf (same-true n w h)

@@ -1,4 +1,4 @@
--- Runs of stores into a table.
+-- One run of stores behind another into a table.
 use mathlib.Core.Path.{_≡_, ap, _∙_}
 use mathlib.Core.List.{List, [], _∷_, _++_}
 use Prim.Native.Nat.{ℕ, suc, _+_}

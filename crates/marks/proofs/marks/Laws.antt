@@ -112,8 +112,12 @@ unfolding markRows
 rows-step ms k h = rw (add-one, take-suc ms k 0 h, rows-append, append-nil)
 
 -- u has the rows before it stored, and u₂ its own behind them
-pub row-stored : (ms t : List ℕ) {u u₂ : List ℕ} (k : ℕ) → k < length ms → u ≡ sets t 0 (markRows (take k ms)) → u₂ ≡ sets u (rowWords * k) (markRow (getD ms k 0))
-    → u₂ ≡ sets t 0 (markRows (take (k + 1) ms))
+pub row-stored : (ms t : List ℕ) {u u₂ : List ℕ} (k : ℕ) → k < length ms → u ≡ sets t 0 (markRows (take k ms))
+    → u₂ ≡ sets u (rowWords * k) (markRow (getD ms k 0)) → u₂ ≡ sets t 0 (markRows (take (k + 1) ms))
 row-stored ms t k h p q =
     let e : rowWords * k ≡ 0 + length (markRows (take k ms)) = omega (arith, rows-length (take k ms), length-take-le k ms (omega arith)) in
     q ∙ rw (p, e, rows-step ms k h) (sym (sets-append (markRows (take k ms)) (markRow (getD ms k 0)) t 0))
+
+-- the last of n was stored
+pub rows-stored : (ms t : List ℕ) {u : List ℕ} {k n : ℕ} → (k ≤ n) × (u ≡ sets t 0 (markRows (take k ms))) → n ≤ k → u ≡ sets t 0 (markRows (take n ms))
+rows-stored ms t {k = k} {n} p l = let e : k ≡ n = omega arith in rw e at (p .1)

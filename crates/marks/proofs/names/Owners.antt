@@ -82,7 +82,8 @@ kept-add s o ms r no-member f e n q z h a b c w = let y : q ≡ r = omega arith 
 kept-add s o ms r (member g i v rest) f e n q z h a b c w =
     (h .0, h .1, h .2, h .3, kept-add s o ms (r + 1 + size v) rest f e n q (omega arith) (h .4) a b c w)
 
-pub kept-within : (s : List ℕ) (o : ℕ) (ms : List ℕ) (r : ℕ) (before : Members) → o < r → o < 65536 → Kept s o ms r before → Within s ms o r (r + sizesMembers before)
+pub kept-within : (s : List ℕ) (o : ℕ) (ms : List ℕ) (r : ℕ) (before : Members) → o < r → o < 65536 → Kept s o ms r before
+    → Within s ms o r (r + sizesMembers before)
 kept-within s o ms r no-member l m h = record { each = λ j k t e. absurd (omega arith) }
 kept-within s o ms r (member f e n rest) l m h =
     let z : r + sizesMembers (member f e n rest) ≡ r + 1 + size n + sizesMembers rest = omega arith in
@@ -111,7 +112,8 @@ module _ (s : List ℕ) (o : ℕ) (ms n : List ℕ) where
 
   -- none has
   kept-none : (r : ℕ) (before : Members) → Kept s o ms r before
-      → ((j : ℕ) → r ≤ j → isName (getD ms j 0) ≡ true → hashIn (getD ms j 0) ≡ ownHash o n → same (nameIn s (getD ms j 0)) n ≡ false) → repeated s before n ≡ false
+      → ((j : ℕ) → r ≤ j → isName (getD ms j 0) ≡ true → hashIn (getD ms j 0) ≡ ownHash o n → same (nameIn s (getD ms j 0)) n ≡ false)
+      → repeated s before n ≡ false
   unfolding repeated
   kept-none r no-member h c = refl
   kept-none r (member f g v rest) h c =
@@ -122,7 +124,8 @@ module _ (s : List ℕ) (o : ℕ) (ms n : List ℕ) where
       let b : same (nameOf s f g) n ≡ false = rw (h .1, h .2) at a in
       rw b (kept-none (r + 1 + size v) rest (h .4) (λ j k. c j (omega arith)))
 
-module _ {s : List ℕ} {o : ℕ} {ms : List ℕ} (before : Members) (m : o < 65536) (h : Kept s o ms (o + 1) before) (f : Fresh ms (o + 1 + sizesMembers before)) where
+module _ {s : List ℕ} {o : ℕ} {ms : List ℕ} (before : Members) (m : o < 65536) (h : Kept s o ms (o + 1) before)
+    (f : Fresh ms (o + 1 + sizesMembers before)) where
   pub kept-quoted : Quoted s ms o
   kept-quoted =
       record {

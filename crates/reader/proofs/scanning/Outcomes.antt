@@ -14,6 +14,7 @@ use Rattle.syntax.specs.Rows.{size, words}
 use Rattle.syntax.specs.Answer.{answer, rowsIn, answerOf, tableOf}
 use Rattle.reader.specs.Scanning.{scanOf}
 use Rattle.reader.specs.declared.scanning.Scanned.the-variants.{Refused, Value}
+use Rattle.model.proofs.Basics.{never}
 use Rattle.syntax.proofs.Facts.{stored}
 
 -- ---- what the first pass tells
@@ -23,7 +24,7 @@ scan-refused (refused c p) q = cc
 scan-refused (parsed n e) q = cc
 
 pub scan-value : (o : Parse Node) {e k : ℕ} → scanOf o ≡ Value e k → (n : Node) × (o ≡ parsed n e) × (size n ≡ k)
-scan-value (refused c p) q = absurd (let z : _≡_ {A = ℕ} 0 1 = cc in omega arith)
+scan-value (refused c p) q = never (cc)
 scan-value (parsed n e) q = (n, cc, cc)
 
 -- ---- the answer and the table

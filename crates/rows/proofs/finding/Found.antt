@@ -1,10 +1,10 @@
--- What a row says of its tree; then the members of an object and the elements of an array, one after the other.
+-- What `find` found for a name: the value under it, or that there is none.
 use Prim.Native.Nat.{ℕ, _<_}
 use mathlib.Core.Path.{_≡_, refl}
 use mathlib.Core.Option.{Option, none as nothing, some}
 use mathlib.Core.List.{List}
 use native.Mathlib.Omega.{arith}
-use Rattle.model.proofs.Basics.{both}
+use Rattle.model.proofs.Basics.{never, both}
 use Rattle.syntax.specs.Tree.{Node, Members, no-member, member}
 use Rattle.model.specs.Text.{same}
 use Rattle.syntax.specs.Grammar.{nameOf}
@@ -12,10 +12,9 @@ use Rattle.syntax.specs.Holding.{Placed, PlacedMembers}
 use Rattle.rows.specs.Finding.{lookup, Agrees, Finds}
 use Rattle.rows.specs.Records.{Rowed, ObjectRow}
 
--- ---- the value under a name
-
-pub lookup-placed : (s key : List ℕ) (ms : Members) (n : Node) → PlacedMembers s ms → lookup s key ms ≡ some n → Placed s n
-lookup-placed s key no-member n p e = let z : _≡_ {A = ℕ} 0 1 = cc in absurd (omega arith)
+-- it lies in the text
+lookup-placed : (s key : List ℕ) (ms : Members) (n : Node) → PlacedMembers s ms → lookup s key ms ≡ some n → Placed s n
+lookup-placed s key no-member n p e = never (cc)
 lookup-placed s key (member f e m ms) n p q =
     both (λ (x : Option Node). x ≡ some n → Placed s n) (same key (nameOf s f e))
     (λ _ e. (let x : m ≡ n = cc in rw x at (p .1)))

@@ -1,84 +1,78 @@
--- The index of names by the hash of their characters: the last name of a bucket, and the index behind one name more.
-use Prim.Native.Nat.{ℕ, zero, suc, _+_, _-_, _≤_, _<_}
+-- The index of names by the hash of their characters: buckets, the index behind one name more, and all names of an object, one after the other.
+use Prim.Native.Nat.{ℕ, zero, suc, _+_, _-_, _/_, _≤_, _<_}
 use mathlib.Core.Path.{_≡_, refl, sym, ap, _∙_}
 use mathlib.Core.Logic.{⊎-elim}
+use mathlib.Core.Bool.{Bool}
 use mathlib.Core.List.{List}
 use native.Mathlib.Numerals.{add-one}
-use native.Mathlib.Nat.{le-of-suc-le-suc, eq-or-lt-of-le}
+use native.Mathlib.Nat.{eq-or-lt-of-le}
 use native.Mathlib.Decide.{ℕ-discrete}
 use native.Mathlib.Omega.{arith}
 use lib.ListN.{length, getD, set, replicate, length-set, getD-replicate}
 use lib.Seq.{getD-set-same, getD-set-other}
-use lib.Dec.{eqb}
-use borrow.Author.Tests.{eqb-true, eqb-false, eq-eqb, ne-eqb}
+use borrow.Author.Tests.{eq-eqb, ne-eqb}
 use Rattle.tokens.specs.Spelling.{IsQuoted}
-use Rattle.model.proofs.Basics.{both}
-use Rattle.chars.proofs.Facts.{hash-small}
+use Rattle.model.proofs.Basics.{never}
+use Rattle.chars.specs.Hashing.{hashedAt}
+use Rattle.chars.specs.declared.hashing.Hashed.the-variants.{Name, Broken}
+use Rattle.chars.proofs.Facts.{hash-small, name-hashed, name-broken, last-here, last-before, last-most, last-nothing, last-same}
 use Rattle.syntax.specs.Tree.{Members}
 use Rattle.syntax.specs.Rows.{countMembers}
 use Rattle.syntax.specs.Grammar.{nameOf}
 use Rattle.syntax.specs.Holding.{word}
 use Rattle.rows.specs.Records.{Reads, ObjectRow}
-use Rattle.rows.specs.Matching.{mostNames, bucketCount, memberName, nameIn, bucketOf, bucketIn, Buckets, lastIn, Indexed, Indexes}
+use Rattle.rows.specs.Matching.{mostNames, bucketCount, memberName, nameIn, bucketOf, bucketIn, Buckets, inBucket, lastIn, Indexed, Indexes}
 use Rattle.rows.specs.declared.records.Record.{Record}
 use Rattle.rows.proofs.records.Trees.{same-members}
-use Rattle.rows.proofs.records.Members.{MembersLeft, MemberHere, members-start, member-here, members-next, member-read}
+use Rattle.rows.proofs.records.Members.{MembersLeft, MemberHere, members-start, member-here, members-next, member-read, quoted-read}
 
--- ---- the last name of a bucket
+-- ---- buckets
 
 pub bucket-small : (n : List ℕ) → bucketOf n < bucketCount
 bucket-small n = omega (arith, hash-small n)
 
-module _ (f : ℕ → ℕ) (b : ℕ) where
-  last-here : (n : ℕ) → f n ≡ b → lastIn f b (suc n) ≡ suc n
-  unfolding lastIn
-  last-here n e = rw (eq-eqb (f n) b e)
+-- the bucket of the name whose opening quote is at f; what is broken there is no name
+module _ {s : List ℕ} {f : ℕ} where
+  pub name-bucket : {e h : ℕ} → hashedAt s (f + 1) ≡ Name e h → Buckets s f (h / 64)
+  name-bucket {e} {h} q =
+      let w = name-hashed s (f + 1) e h q in
+      record {
+        small = omega (arith, w .1, hash-small (nameOf s f e));
+        tells = λ e₂ r. let z : e ≡ e₂ = cc (w .0, r .ends) in rw z at (ap (λ (x : ℕ). x / 64) (w .1));
+      }
 
-  last-before : (n : ℕ) → (f n ≡ b → ⊥) → lastIn f b (suc n) ≡ lastIn f b n
-  unfolding lastIn
-  last-before n e = rw (ne-eqb (f n) b e)
-
-  pub last-most : (n : ℕ) → lastIn f b n ≤ n
-  unfolding lastIn
-  last-most zero = omega arith
-  last-most (suc n) = both (λ x. x ≤ suc n) (eqb (f n) b) (λ _. omega arith) (λ _. omega (arith, last-most n))
-
-  -- it lies in the bucket
-  pub last-found : (n j : ℕ) → lastIn f b n ≡ suc j → f j ≡ b
-  unfolding lastIn
-  last-found zero j q = absurd (omega arith)
-  last-found (suc n) j q =
-      both (λ x. x ≡ suc j → f j ≡ b) (eqb (f n) b) (λ t e. let z : n ≡ j = omega arith in rw z at (eqb-true (f n) b t)) (λ _ e. last-found n j e) q
-
-  -- and no name behind it does
-  pub last-skips : (n j : ℕ) → lastIn f b n ≤ j → j < n → f j ≡ b → ⊥
-  unfolding lastIn
-  last-skips zero j l m e = omega arith
-  last-skips (suc n) j l m e =
-      both (λ x. x ≤ j → ⊥) (eqb (f n) b) (λ _ u. omega arith)
-      (λ t u. ⊎-elim (λ z. eqb-false (f n) b t (rw z at e)) (λ v. last-skips n j u v e) (eq-or-lt-of-le (le-of-suc-le-suc m)))
-      l
+  pub broken-bucket : {c p : ℕ} → hashedAt s (f + 1) ≡ Broken c p → Buckets s f 0
+  broken-bucket {c} {p} q = record { small = omega arith; tells = λ e r. never (cc (name-broken s (f + 1) c p q, r .ends)) }
 
 -- other names behind the first n
 last-kept : (f g : ℕ → ℕ) (b n : ℕ) → ((j : ℕ) → j < n → g j ≡ f j) → lastIn g b n ≡ lastIn f b n
-unfolding lastIn
-last-kept f g b zero h = refl
-last-kept f g b (suc n) h = rw (h n (omega arith), last-kept f g b n (λ j l. h j (omega arith)))
+last-kept f g b n h = last-same (inBucket f b) (inBucket g b) (suc n) alike
+  where
+    alike : (j : ℕ) → j < suc n → inBucket g b j ≡ inBucket f b j
+    alike zero l = refl
+    alike (suc j) l = rw (h j (omega arith))
 
 -- ---- the index
 
 pub index-none : (s ls fs es : List ℕ) {hs : List ℕ} → hs ≡ replicate bucketCount 0 → Indexed s hs ls fs es 0
-unfolding lastIn
 index-none s ls fs es e = record {
   few = omega arith;
-  heads = λ b l. rw e (getD-replicate bucketCount b 0 0 l);
+  heads = λ b l. rw e (getD-replicate bucketCount b 0 0 l ∙ sym (last-nothing (inBucket (bucketIn s fs es) b) 1 (λ j m. let z : j ≡ 0 = omega arith in rw z)));
   links = λ j l. absurd (omega arith);
   quoted = λ j l. absurd (omega arith);
 }
 
+-- the four lists of an index have their places
+pub record Long (hs ls fs es : List ℕ) : Type 0 where
+  pub heads : length hs ≡ bucketCount
+  pub links : length ls ≡ mostNames
+  pub firsts : length fs ≡ mostNames
+  pub ends : length es ≡ mostNames
+
 module _ {s hs ls fs es : List ℕ} {n : ℕ} (x : Indexed s hs ls fs es n) where
   -- the places behind the first n are set anew
-  index-kept : {fs₂ es₂ : List ℕ} → ((j : ℕ) → j < n → getD fs₂ j 0 ≡ getD fs j 0) → ((j : ℕ) → j < n → getD es₂ j 0 ≡ getD es j 0) → Indexed s hs ls fs₂ es₂ n
+  index-kept : {fs₂ es₂ : List ℕ} → ((j : ℕ) → j < n → getD fs₂ j 0 ≡ getD fs j 0) → ((j : ℕ) → j < n → getD es₂ j 0 ≡ getD es j 0)
+      → Indexed s hs ls fs₂ es₂ n
   index-kept {fs₂} {es₂} p q =
       let f = bucketIn s fs es in
       let g = bucketIn s fs₂ es₂ in
@@ -91,24 +85,28 @@ module _ {s hs ls fs es : List ℕ} {n : ℕ} (x : Indexed s hs ls fs es n) wher
       }
 
   pub index-head : {b : ℕ} → b < bucketCount → getD hs b 0 ≤ mostNames
-  index-head {b} l = omega (arith, x .few, x .heads b l, last-most (bucketIn s fs es) b n)
+  index-head {b} l = omega (arith, x .few, x .heads b l, last-most (inBucket (bucketIn s fs es) b) (suc n))
 
   -- the name at n comes into the index: it leads to its bucket's last name, and is it now
-  module _ {b : ℕ} (e : b ≡ bucketIn s fs es n) (small : b < bucketCount) (l : n < mostNames) (h : length hs ≡ bucketCount) (k : length ls ≡ mostNames) (q : IsQuoted s (getD fs n 0) (getD es n 0)) where
+  module _ {b : ℕ} (e : b ≡ bucketIn s fs es n) (small : b < bucketCount) (l : n < mostNames) (long : Long hs ls fs es) where
+    abbrev in-its : ℕ → ℕ → Bool
+    in-its c j = inBucket (bucketIn s fs es) c j
+
     more-heads : (c : ℕ) → c < bucketCount → getD (set hs b (n + 1)) c 0 ≡ lastIn (bucketIn s fs es) c (n + 1)
     more-heads c m = go (ℕ-discrete c b)
       where
         go : Dec (c ≡ b) → getD (set hs b (n + 1)) c 0 ≡ lastIn (bucketIn s fs es) c (n + 1)
-        go (yes z) = rw (z, getD-set-same hs b (n + 1) 0 (omega arith), add-one) (sym (last-here (bucketIn s fs es) b n (sym e)))
-        go (no z) = rw (getD-set-other hs b c (n + 1) 0 z, add-one) (x .heads c m ∙ sym (last-before (bucketIn s fs es) c n (λ y. z (sym y ∙ sym e))))
+        go (yes z) = rw (z, getD-set-same hs b (n + 1) 0 (omega arith), add-one) (sym (last-here (in-its b) (suc n) (eq-eqb _ b (sym e))))
+        go (no z) =
+            rw (getD-set-other hs b c (n + 1) 0 z, add-one) (x .heads c m ∙ sym (last-before (in-its c) (suc n) (ne-eqb _ c (λ y. z (sym y ∙ sym e)))))
 
     more-links : (j : ℕ) → j < n + 1 → getD (set ls n (getD hs b 0)) j 0 ≡ lastIn (bucketIn s fs es) (bucketIn s fs es j) j
     more-links j m =
         ⊎-elim (λ z. rw (z, getD-set-same ls n (getD hs b 0) 0 (omega arith), ← e) (x .heads b small))
         (λ u. getD-set-other ls n j (getD hs b 0) 0 (λ z. omega arith) ∙ x .links j u) (eq-or-lt-of-le (omega arith))
 
-    index-more : Indexed s (set hs b (n + 1)) (set ls n (getD hs b 0)) fs es (n + 1)
-    index-more = record {
+    index-more : IsQuoted s (getD fs n 0) (getD es n 0) → Indexed s (set hs b (n + 1)) (set ls n (getD hs b 0)) fs es (n + 1)
+    index-more q = record {
       few = omega arith;
       heads = more-heads;
       links = more-links;
@@ -117,13 +115,17 @@ module _ {s hs ls fs es : List ℕ} {n : ℕ} (x : Indexed s hs ls fs es n) wher
 
 -- a name is put behind the others
 pub index-push : {s hs ls fs es : List ℕ} {n b f e : ℕ} → Indexed s hs ls fs es n → b ≡ bucketOf (nameOf s f e) → b < bucketCount → n < mostNames
-    → length hs ≡ bucketCount → length ls ≡ mostNames → length fs ≡ mostNames → length es ≡ mostNames → IsQuoted s f e
-    → Indexed s (set hs b (n + 1)) (set ls n (getD hs b 0)) (set fs n f) (set es n e) (n + 1)
-index-push {s} {hs} {ls} {fs} {es} {n} {b} {f} {e} x p small l h k i o q =
-    let y : Indexed s hs ls (set fs n f) (set es n e) n = index-kept x (λ j m. getD-set-other fs n j f 0 (λ z. omega arith)) (λ j m. getD-set-other es n j e 0 (λ z. omega arith)) in
+    → Long hs ls fs es → IsQuoted s f e → Indexed s (set hs b (n + 1)) (set ls n (getD hs b 0)) (set fs n f) (set es n e) (n + 1)
+index-push {s} {hs} {ls} {fs} {es} {n} {b} {f} {e} x p small l w q =
+    let y : Indexed s hs ls (set fs n f) (set es n e) n =
+    index-kept x (λ j m. getD-set-other fs n j f 0 (λ z. omega arith)) (λ j m. getD-set-other es n j e 0 (λ z. omega arith))
+    in
+    let long : Long hs ls (set fs n f) (set es n e) =
+    record { heads = w .heads; links = w .links; firsts = simp length-set (w .firsts); ends = simp length-set (w .ends) }
+    in
     let u : getD (set fs n f) n 0 ≡ f = getD-set-same fs n f 0 (omega arith) in
     let v : getD (set es n e) n 0 ≡ e = getD-set-same es n e 0 (omega arith) in
-    index-more y (rw (u, v) p) small l h k (rw (u, v) q)
+    index-more y (rw (u, v) p) small l long (rw (u, v) q)
 
 -- ---- the members of an object, one after the other
 
@@ -131,7 +133,7 @@ index-push {s} {hs} {ls} {fs} {es} {n} {b} {f} {e} x p small l h k i o q =
 pub record Indexing (s t : List ℕ) (r : ℕ) (hs ls fs es : List ℕ) (count i here : ℕ) : Type 0 where
   pub within : i ≤ count
   pub few : count ≤ mostNames
-  pub long : (length hs ≡ bucketCount) × (length ls ≡ mostNames) × (length fs ≡ mostNames) × (length es ≡ mostNames)
+  pub long : Long hs ls fs es
   pub index : Indexed s hs ls fs es i
   pub rest : Members
   pub ahead : MembersLeft s t here (count - i) rest
@@ -141,7 +143,7 @@ pub record Indexing (s t : List ℕ) (r : ℕ) (hs ls fs es : List ℕ) (count i
 
 module _ {s t : List ℕ} {r : ℕ} where
   pub indexing-start : (o : ObjectRow s t r) {hs ls fs es : List ℕ} {count : ℕ} → count ≡ word t r 3 → count ≤ mostNames → hs ≡ replicate bucketCount 0
-      → (length hs ≡ bucketCount) × (length ls ≡ mostNames) × (length fs ≡ mostNames) × (length es ≡ mostNames) → Indexing s t r hs ls fs es count 0 (r + 1)
+      → Long hs ls fs es → Indexing s t r hs ls fs es count 0 (r + 1)
   indexing-start o {ls = ls} {fs = fs} {es = es} {count = count} e l z long =
       let c : count - 0 ≡ count = omega arith in
       record {
@@ -176,8 +178,8 @@ module _ {s t : List ℕ} {r : ℕ} where
             here-listed : j ≡ i → nameIn s (set fs i (x .first)) (set es i (x .end)) j ≡ memberName s (o .members) j
             here-listed z =
                 let c : i + 0 ≡ i = omega arith in
-                let f = getD-set-same fs i (x .first) 0 (omega (arith, a .long .2, a .few)) in
-                let e = getD-set-same es i (x .end) 0 (omega (arith, a .long .3, a .few)) in
+                let f = getD-set-same fs i (x .first) 0 (omega (arith, a .long .firsts, a .few)) in
+                let e = getD-set-same es i (x .end) 0 (omega (arith, a .long .ends, a .few)) in
                 rw (z, f, e) (sym (ap (λ (ms : Members). memberName s ms 0) (member-read indexing-name p)) ∙ rw c at (a .behind o 0))
 
             kept : j < i → nameIn s (set fs i (x .first)) (set es i (x .end)) j ≡ memberName s (o .members) j
@@ -191,14 +193,19 @@ module _ {s t : List ℕ} {r : ℕ} where
 
         pub indexing-next : Indexing s t r (set hs b (i + 1)) (set ls i (getD hs b 0)) (set fs i (x .first)) (set es i (x .end)) count (i + 1) (y .next)
         indexing-next =
-            let quoted : IsQuoted s (x .first) (x .end) = rw (p .first, p .last) (indexing-name .quoted) in
+            let quoted = quoted-read p (indexing-name .quoted) in
             let c : count - i - 1 ≡ count - (i + 1) = omega arith in
-            let long = a .long in
+            let w = a .long in
             record {
               within = omega arith;
               few = a .few;
-              long = (simp length-set (long .0), simp length-set (long .1), simp length-set (long .2), simp length-set (long .3));
-              index = index-push (a .index) (k .tells (x .end) quoted) (k .small) (omega (arith, a .few)) (long .0) (long .1) (long .2) (long .3) quoted;
+              long = record {
+                heads = simp length-set (w .heads);
+                links = simp length-set (w .links);
+                firsts = simp length-set (w .firsts);
+                ends = simp length-set (w .ends);
+              };
+              index = index-push (a .index) (k .tells (x .end) quoted) (k .small) (omega (arith, a .few)) w quoted;
               rest = indexing-name .others;
               ahead = rw (← c) (members-next (a .ahead) indexing-name (q .next));
               counts = a .counts;

@@ -1,29 +1,32 @@
 -- What is found in one object for the indexed names of another, on plain values.
 use Prim.Native.Nat.{ℕ, zero, suc, _+_, _-_, _≤_, _<_}
-use mathlib.Core.Path.{_≡_, refl, ap, _∙_}
+use mathlib.Core.Path.{_≡_, refl, sym, ap, _∙_}
 use mathlib.Core.Logic.{⊎-elim}
 use mathlib.Core.Bool.{Bool, true, false}
 use mathlib.Core.List.{List}
 use native.Mathlib.Nat.{eq-or-lt-of-le}
 use native.Mathlib.Decide.{decLt}
 use native.Mathlib.Omega.{arith}
-use lib.ListN.{length, getD, set, replicate, getD-replicate}
+use lib.ListN.{length, getD, set, replicate, length-set, getD-replicate}
 use lib.Seq.{getD-set-same, getD-set-other}
-use borrow.Author.Tests.{ne-eqb}
+use borrow.Author.Tests.{eqb-true, eq-eqb, ne-eqb}
 use Rattle.model.specs.Text.{same}
 use Rattle.model.proofs.Basics.{by-test}
-use Rattle.chars.proofs.Facts.{same-true}
+use Rattle.chars.specs.Strings.{characters}
+use Rattle.chars.proofs.Facts.{same-true, last-most, last-found, last-skips}
+use Rattle.tokens.proofs.Facts.{quoted-bounds}
 use Rattle.syntax.specs.Tree.{Members}
 use Rattle.syntax.specs.Rows.{countMembers}
 use Rattle.syntax.specs.Grammar.{nameOf}
 use Rattle.syntax.specs.Holding.{word}
 use Rattle.rows.specs.Records.{Reads, ObjectRow}
 use Rattle.rows.specs.Finding.{Finds}
-use Rattle.rows.specs.Matching.{mostNames, memberName, nameIn, bucketOf, bucketIn, lastIn, Indexed, Indexes, filled, Fills, FillsAll, Matches}
+use Rattle.rows.specs.Matching.{mostNames, memberName, nameIn, bucketOf, bucketIn, inBucket, lastIn, Indexed, HasIndex, Indexes, filled}
+use Rattle.rows.specs.Matching.{Fills, FillsAll, Matches}
 use Rattle.rows.specs.declared.records.Record.{Record}
 use Rattle.rows.proofs.records.Members.{MembersLeft, MemberHere, members-start, member-here, members-next}
 use Rattle.rows.proofs.finding.Laws.{Seeking, seek, seek-end, hit, missed}
-use Rattle.rows.proofs.matching.Index.{bucket-small, last-most, last-found, last-skips}
+use Rattle.rows.proofs.matching.Index.{bucket-small}
 
 -- ---- along the chain of a bucket
 
@@ -39,6 +42,11 @@ pub record Filling (s fs es : List ℕ) (n : ℕ) (m : List ℕ) (r : ℕ) (vs v
   pub settled : (j : ℕ) → k ≤ j → j < n → getD vs₂ j 0 ≡ filled (same (nameIn s fs es j) m) r (getD vs j 0)
   pub ahead : (j : ℕ) → j < k → getD vs₂ j 0 ≡ getD vs j 0
 
+-- the name before k lies in the bucket
+passed-in : (f : ℕ → ℕ) (b k : ℕ) → 0 < k → inBucket f b k ≡ true → f (k - 1) ≡ b
+passed-in f b zero l e = absurd (omega arith)
+passed-in f b (suc j) l e = let z : suc j - 1 ≡ j = omega arith in rw z (eqb-true (f j) b e)
+
 -- a name in another bucket is another name
 other-bucket : (n m : List ℕ) → (bucketOf n ≡ bucketOf m → ⊥) → same n m ≡ false
 other-bucket n m f = by-test (same n m) (λ t. absurd (f (ap bucketOf (same-true n m t)))) (λ t. t)
@@ -48,33 +56,30 @@ module _ {s fs es : List ℕ} {n : ℕ} (m : List ℕ) {r : ℕ} {vs vs₂ : Lis
   from-last : (i : ℕ) → i ≤ n → ((j : ℕ) → i ≤ j → j < n → getD vs₂ j 0 ≡ filled (same (nameIn s fs es j) m) r (getD vs j 0))
       → ((j : ℕ) → j < i → getD vs₂ j 0 ≡ getD vs j 0) → Filling s fs es n m r vs vs₂ (lastIn (bucketIn s fs es) (bucketOf m) i)
   from-last i u f g =
-      let k = lastIn (bucketIn s fs es) (bucketOf m) i in
-      let w = last-most (bucketIn s fs es) (bucketOf m) i in
+      let p = inBucket (bucketIn s fs es) (bucketOf m) in
+      let w = last-most p (suc i) in
       record {
         below = omega arith;
-        chained = λ z. let e : k ≡ suc (k - 1) = omega arith in last-found (bucketIn s fs es) (bucketOf m) i (k - 1) e;
+        chained = λ z. passed-in (bucketIn s fs es) (bucketOf m) _ z (last-found p (suc i) z);
         settled = λ j a l. go j a l (decLt j i);
         ahead = λ j l. g j (omega arith);
       }
     where
       go : (j : ℕ) → lastIn (bucketIn s fs es) (bucketOf m) i ≤ j → j < n → Dec (j < i) → getD vs₂ j 0 ≡ filled (same (nameIn s fs es j) m) r (getD vs j 0)
-      go j a l (yes v) = rw (other-bucket (nameIn s fs es j) m (λ q. last-skips (bucketIn s fs es) (bucketOf m) i j a v q)) (g j v)
+      go j a l (yes v) =
+          let p = inBucket (bucketIn s fs es) (bucketOf m) in
+          rw (other-bucket (nameIn s fs es j) m (λ q. last-skips p (suc i) (suc j) (omega arith) (omega arith) (eq-eqb _ _ q))) (g j v)
       go j a l (no v) = f j (omega arith) l
 
--- the same for every number of names that are indexed
-pub record Along (s hs ls fs es m : List ℕ) (r : ℕ) (vs vs₂ : List ℕ) (k : ℕ) : Type 0 where
-  pub long : length vs₂ ≡ mostNames
-  pub each : {n : ℕ} → Indexed s hs ls fs es n → Filling s fs es n m r vs vs₂ k
-
 module _ {s hs ls fs es : List ℕ} {n : ℕ} (x : Indexed s hs ls fs es n) {m : List ℕ} {r : ℕ} {vs : List ℕ} where
-  pub fill-begin : {b : ℕ} → b ≡ bucketOf m → Filling s fs es n m r vs vs (getD hs b 0)
+  fill-begin : {b : ℕ} → b ≡ bucketOf m → Filling s fs es n m r vs vs (getD hs b 0)
   fill-begin e = rw (e, x .heads (bucketOf m) (bucket-small m)) (from-last m n (omega arith) (λ j a l. absurd (omega arith)) (λ j l. refl))
 
-  module _ {vs₂ : List ℕ} {k : ℕ} (d : Filling s fs es n m r vs vs₂ k) where
-    -- the name before k is settled, and leads on
-    pub fill-next : 0 < k → k - 1 < length vs₂ → {v : ℕ} → v ≡ filled (same (nameIn s fs es (k - 1)) m) r (getD vs₂ (k - 1) 0)
+  -- the name before k is settled, and leads on
+  module _ {vs₂ : List ℕ} {k : ℕ} (d : Filling s fs es n m r vs vs₂ k) (l : 0 < k) where
+    fill-next : k - 1 < length vs₂ → {v : ℕ} → v ≡ filled (same (nameIn s fs es (k - 1)) m) r (getD vs₂ (k - 1) 0)
         → Filling s fs es n m r vs (set vs₂ (k - 1) v) (getD ls (k - 1) 0)
-    fill-next l w {v} e =
+    fill-next w {v} e =
         let b = d .below in
         rw (x .links (k - 1) (omega arith), d .chained l)
         (from-last m (k - 1) (omega arith)
@@ -82,9 +87,45 @@ module _ {s hs ls fs es : List ℕ} {n : ℕ} (x : Indexed s hs ls fs es n) {m :
         (λ y. getD-set-other vs₂ (k - 1) j v 0 (λ z. omega arith) ∙ d .settled j (omega arith) u) (eq-or-lt-of-le a))
         (λ j u. getD-set-other vs₂ (k - 1) j v 0 (λ z. omega arith) ∙ d .ahead j (omega arith)))
 
-    -- links go down
-    pub fill-less : 0 < k → getD ls (k - 1) 0 < k
-    fill-less l = omega (arith, d .below, x .links (k - 1) (omega (arith, d .below)), last-most (bucketIn s fs es) (bucketIn s fs es (k - 1)) (k - 1))
+-- two names were compared as the bytes between their quotes
+pub compared : {a b x y : List ℕ} {t : Bool} → a ≡ x → b ≡ y → t ≡ same (characters a) (characters b) → t ≡ same (characters x) (characters y)
+compared p q e = e ∙ rw (p, q)
+
+-- the same for every number of names that are indexed
+pub record Along (s hs ls fs es m : List ℕ) (r : ℕ) (vs vs₂ : List ℕ) (k : ℕ) : Type 0 where
+  pub long : length vs₂ ≡ mostNames
+  pub each : {n : ℕ} → Indexed s hs ls fs es n → Filling s fs es n m r vs vs₂ k
+
+-- the name before k, in a turn
+pub record NameHere (s ls fs es : List ℕ) (k : ℕ) : Type 0 where
+  pub room : k - 1 < mostNames
+  pub quotes : (getD fs (k - 1) 0 + 2 ≤ getD es (k - 1) 0) × (getD es (k - 1) 0 ≤ length s)
+  pub less : getD ls (k - 1) 0 < k
+
+module _ {s hs ls fs es m : List ℕ} {r : ℕ} {vs : List ℕ} where
+  pub along-begin : {b : ℕ} → length vs ≡ mostNames → b ≡ bucketOf m → Along s hs ls fs es m r vs vs (getD hs b 0)
+  along-begin l e = record { long = l; each = λ x. fill-begin x e }
+
+  module _ {vs₂ : List ℕ} {k : ℕ} (a : Along s hs ls fs es m r vs vs₂ k) where
+    pub along-end : length vs ≡ mostNames → k ≤ 0 → Fills s hs ls fs es m r vs vs₂
+    along-end e l = record { long = a .long ∙ sym e; tells = λ x j u. a .each x .settled j (omega arith) u }
+
+    module _ (l : 0 < k) where
+      -- it has its place and both its quotes, and its link goes down
+      pub along-name : HasIndex s hs ls fs es → NameHere s ls fs es k
+      along-name h =
+          let x = h .index in
+          let place : k - 1 < h .count = omega (arith, a .each x .below) in
+          let b = quoted-bounds (x .quoted (k - 1) place) in
+          record {
+            room = omega (arith, x .few);
+            quotes = (b .0, b .1);
+            less = omega (arith, x .links (k - 1) place, last-most (inBucket (bucketIn s fs es) (bucketIn s fs es (k - 1))) (suc (k - 1)));
+          }
+
+      pub along-next : k - 1 < mostNames → {t : Bool} {v : ℕ} → t ≡ same (nameIn s fs es (k - 1)) m → v ≡ filled t r (getD vs₂ (k - 1) 0)
+          → Along s hs ls fs es m r vs (set vs₂ (k - 1) v) (getD ls (k - 1) 0)
+      along-next w p e = record { long = simp length-set (a .long); each = λ x. fill-next x (a .each x) l (omega (arith, a .long)) (rw p at e) }
 
 -- ---- the members of the other object, one after the other
 
@@ -102,7 +143,8 @@ module _ {s t : List ℕ} {r : ℕ} {key : List ℕ} where
   sought-end {v = suc v} a l = a .done (omega arith)
 
   module _ {here left : ℕ} (l : 0 < left) {x : Record} (p : Reads t here x) {here₂ : ℕ} (q : here₂ ≡ here + 1 + word t (here + 1) 4) where
-    pub sought-next : (v w : ℕ) → Sought s t r key here left v → w ≡ filled (same key (nameOf s (x .first) (x .end))) (here + 1) v → Sought s t r key here₂ (left - 1) w
+    pub sought-next : (v w : ℕ) → Sought s t r key here left v → w ≡ filled (same key (nameOf s (x .first) (x .end))) (here + 1) v
+        → Sought s t r key here₂ (left - 1) w
     sought-next zero w a e =
         by-test (same key (nameOf s (x .first) (x .end)))
         (λ y. let z : w ≡ here + 1 = rw y at e in record { unseen = λ u. absurd (omega arith); done = λ _. rw z (hit (a .unseen refl) l p y) })
@@ -143,8 +185,8 @@ module _ {s t : List ℕ} {r : ℕ} {s₂ hs ls fs es vs : List ℕ} where
       pub search-name : MemberHere s t here (a .rest)
       search-name = member-here (a .ahead) l
 
-      pub search-next : {x y : Record} {vs₃ : List ℕ} → Reads t here x → Reads t (here + 1) y → Fills s₂ hs ls fs es (nameOf s (x .first) (x .end)) (here + 1) vs₂ vs₃
-          → Searching s t r s₂ hs ls fs es vs vs₃ (y .next) (left - 1)
+      pub search-next : {x y : Record} {vs₃ : List ℕ} → Reads t here x → Reads t (here + 1) y
+          → Fills s₂ hs ls fs es (nameOf s (x .first) (x .end)) (here + 1) vs₂ vs₃ → Searching s t r s₂ hs ls fs es vs vs₃ (y .next) (left - 1)
       search-next {x = z} {vs₃ = vs₃} p q f = record {
         long = f .long ∙ a .long;
         rest = search-name .others;
@@ -164,8 +206,9 @@ pub matches : {s₁ t₁ : List ℕ} {r₁ : ℕ} {s₂ t₂ : List ℕ} {r₂ :
 matches i f = record { long = f .long; tells = λ o j l. rw (i .lists .tells o j l) at (f .tells (i .tells o) j l) }
 
 -- where nothing was found before
-pub matched-fresh : {s₁ t₁ : List ℕ} {r₁ : ℕ} {s₂ t₂ : List ℕ} {r₂ : ℕ} {vs : List ℕ} → Matches s₁ t₁ r₁ s₂ t₂ r₂ (replicate mostNames 0) vs → (o : ObjectRow s₂ t₂ r₂)
-    → countMembers (o .members) ≤ mostNames → (j : ℕ) → j < countMembers (o .members) → Finds s₁ t₁ r₁ (memberName s₂ (o .members) j) (getD vs j 0)
+pub matched-fresh : {s₁ t₁ : List ℕ} {r₁ : ℕ} {s₂ t₂ : List ℕ} {r₂ : ℕ} {vs : List ℕ} → Matches s₁ t₁ r₁ s₂ t₂ r₂ (replicate mostNames 0) vs
+    → (o : ObjectRow s₂ t₂ r₂) → countMembers (o .members) ≤ mostNames → (j : ℕ) → j < countMembers (o .members)
+    → Finds s₁ t₁ r₁ (memberName s₂ (o .members) j) (getD vs j 0)
 matched-fresh m o few j l = m .tells o j l .fresh (getD-replicate mostNames j 0 0 (omega arith))
 
 -- ---- what holds of the names of the members that are left, and of what was found for them in vs, from i on

@@ -1,4 +1,4 @@
--- What a row says of its tree; then the members of an object and the elements of an array, one after the other.
+-- Going through the elements of an array.
 use Prim.Native.Nat.{ℕ, _+_, _-_, _≤_, _<_}
 use mathlib.Core.Path.{_≡_, refl, ap, _∙_}
 use mathlib.Core.List.{List}
@@ -9,13 +9,13 @@ use Rattle.syntax.specs.Holding.{word, Holds, HoldsAll, Placed, PlacedAll}
 use Rattle.rows.specs.Records.{Rowed}
 use Rattle.rows.proofs.records.Trees.{elementsIn, row-of, array-row}
 
--- ---- the elements of an array, one after the other
-
+-- those not yet seen: `left` of them, from row `here` on
 pub record ElementsLeft (s t : List ℕ) (here left : ℕ) (rest : Nodes) : Type 0 where
   pub holds : HoldsAll t here rest
   pub placed : PlacedAll s rest
   pub counts : left ≡ count rest
 
+-- the first of them, and the others behind it
 pub record ElementHere (s t : List ℕ) (here : ℕ) (rest : Nodes) : Type 0 where
   pub value : Rowed s t here
   pub others : Nodes

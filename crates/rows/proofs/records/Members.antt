@@ -1,4 +1,4 @@
--- What a row says of its tree; then the members of an object and the elements of an array, one after the other.
+-- Going through the members of an object: from name to name, or from value to value.
 use Prim.Native.Nat.{ℕ, _+_, _-_, _≤_, _<_}
 use mathlib.Core.Path.{_≡_, refl, ap, _∙_}
 use mathlib.Core.List.{List}
@@ -13,7 +13,7 @@ use Rattle.rows.specs.Records.{InTable, Reads, Rowed, ObjectRow}
 use Rattle.rows.specs.declared.records.Record.{Record}
 use Rattle.rows.proofs.records.Trees.{row-of, row-in, in-table}
 
--- ---- the members of an object, one after the other
+-- ---- from name to name
 
 -- those not yet seen: `left` of them, from row `here` on
 pub record MembersLeft (s t : List ℕ) (here left : ℕ) (rest : Members) : Type 0 where
@@ -65,14 +65,17 @@ module _ {s t : List ℕ} {here left : ℕ} where
 
 -- a name or a string by the row that was read: the bytes between its quotes
 module _ {s t : List ℕ} {r : ℕ} {x : Record} (p : Reads t r x) (q : IsQuoted s (word t r 1) (word t r 2)) where
+  pub quoted-read : IsQuoted s (x .first) (x .end)
+  quoted-read = rw (p .first, p .last) q
+
   pub quotes-read : (x .first + 2 ≤ x .end) × (x .end ≤ length s)
-  quotes-read = let b = quoted-bounds q in (omega (arith, p .first, p .last), omega (arith, p .last))
+  quotes-read = let b = quoted-bounds quoted-read in (b .0, b .1)
 
 module _ {s t : List ℕ} {here : ℕ} {rest : Members} (m : MemberHere s t here rest) {x : Record} (p : Reads t here x) where
   pub member-read : rest ≡ member (x .first) (x .end) (m .value .tree) (m .others)
   member-read = m .is ∙ rw (p .first, p .last)
 
--- ---- the values of the members, one after the other: `at` is the row of the next one's value
+-- ---- from value to value: `at` is the row of the next member's value, and its name is at the row before
 
 pub record ValuesLeft (s t : List ℕ) (at left : ℕ) (rest : Members) : Type 0 where
   pub name : ℕ

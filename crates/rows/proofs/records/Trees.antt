@@ -1,4 +1,4 @@
--- What a row says of its tree; then the members of an object and the elements of an array, one after the other.
+-- What a row says of its tree, by its kind and as it was read; objects among the values of a table.
 use Prim.Native.Nat.{ℕ, zero, suc, _+_, _*_, _≤_, _<_}
 use mathlib.Core.Path.{_≡_, refl, sym, ap, _∙_}
 use mathlib.Core.List.{List}
@@ -67,11 +67,6 @@ row-in {t} {r} {k} {f} {e} {children} {rows} w l =
     let q : word t r 4 ≡ rows = w .subtree in
     record { here = omega (arith, w .room); room = rw q (w .room) }
 
-placed-in : (s : List ℕ) (n : Node) → Placed s n → (placeOf n < endOf n) × (endOf n ≤ length s)
-placed-in s (scalar k f e) p = (p .0, p .1)
-placed-in s (array f e ns) p = (p .0, p .1)
-placed-in s (object f e ms) p = (p .0, p .1)
-
 placed-string : (s : List ℕ) (n : Node) (f e : ℕ) → n ≡ scalar Quoted f e → Placed s n → IsQuoted s f e
 placed-string s n f e q p = (rw q at p) .2
 
@@ -81,9 +76,6 @@ module _ {s t : List ℕ} {r : ℕ} (w : Rowed s t r) where
 
   pub in-table : InTable t r
   in-table = row-in row (size-pos (w .tree))
-
-  pub within : (placeOf (w .tree) < endOf (w .tree)) × (endOf (w .tree) ≤ length s)
-  within = placed-in s (w .tree) (w .placed)
 
   -- by the kind that the row says
   pub string-row : word t r 0 ≡ 6 → w .tree ≡ scalar Quoted (word t r 1) (word t r 2)

@@ -17,6 +17,7 @@ use Rattle.model.specs.Witness.{kept, behind, rarer, avoiding, names, ownNames,
 use Rattle.model.proofs.Basics.{both}
 use Rattle.model.proofs.Samples.{others-fresh}
 use Rattle.model.proofs.Letters.{nextLetter, letters-fewer, lettersFrom, letters-stop, letters-next, fresh-letters}
+use Rattle.chars.specs.Strings.{characters, part}
 use Rattle.syntax.specs.Tree.{Members, no-member, member}
 use Rattle.syntax.specs.Rows.{rowWords, sizesMembers}
 use Rattle.syntax.specs.Grammar.{nameOf}
@@ -24,6 +25,7 @@ use Rattle.syntax.specs.Holding.{word}
 use Rattle.grammar.specs.Utf8.{utf8}
 use Rattle.writer.specs.Spell.{spellChar, spellChars, spell}
 use Rattle.writer.specs.Compact.{over}
+use Rattle.model.proofs.Basics.{never}
 use Rattle.writer.proofs.Over.{over-first, Wrote, wrote-byte}
 use Rattle.definitions.specs.Definitions.{Located, named-at, array-at, map-at, object-at, LocatedFields, fine, definitionAt, fieldsAt, bare, bareFields}
 use Rattle.rows.specs.Records.{Reads, PartRow}
@@ -36,10 +38,14 @@ use Rattle.definitions.specs.declared.types.Generic.the-variants.{Array, Map, O
 use Rattle.rows.specs.declared.records.Record.{Record}
 use Rattle.rows.proofs.Facts.{row, as-row, part-object}
 use Rattle.definitions.proofs.Facts.{added-fine, in-array, in-map, FieldsLeft, FieldHere, fields-none, fields-start, fields-end, field-here}
-use Rattle.definitions.proofs.Facts.{fields-empty, same-fields, same-definition}
-use Rattle.comparison.proofs.Facts.{of-name, object-fields, required-fields, optional-fields, of-kind}
+use Rattle.definitions.proofs.Facts.{spelled, fields-empty, same-fields, same-definition}
+use Rattle.comparison.proofs.Facts.{of-name}
+use Rattle.definitions.proofs.Facts.{object-fields}
+use Rattle.definitions.proofs.Facts.{required-fields}
+use Rattle.definitions.proofs.Facts.{optional-fields}
+use Rattle.definitions.proofs.Facts.{of-kind}
 use Rattle.samples.proofs.Lent.{wrote, Lent, lent, lent-last}
-use Rattle.samples.specs.Writing.{Writes, apartBy, further, CountsFields, CountsNames, LettersReady, LettersWritten, BeyondWritten}
+use Rattle.samples.specs.Writing.{Writes, apartBy, further, CountsFields, CountsNames, LettersReady, LettersWritten, BeyondReady, BeyondWritten}
 
 -- ---- a name that is compared with the letters p, up to the k-th
 
@@ -93,11 +99,12 @@ module _ {s t : List ℕ} {r : ℕ} {p : List ℕ} where
 
       -- its name's row was read, and that of the definition behind it
       module _ {x y : Record} (g : Reads t here x) (h : Reads t (here + 1) y) where
-        -- it counts by whether it begins with p
-        pub count-next : {b : Bool} → b ≡ begins p (nameOf s (x .first) (x .end)) → {m : ℕ} → m ≡ cond b (n + 1) n → Counting s t r p (y .next) (left - 1) m
-        count-next {b} e {m} q =
+        -- the name between its quotes counts by whether it begins with p
+        pub count-next : {u : List ℕ} → u ≡ part s (x .first + 1) (x .end - 1) → {b : Bool} → b ≡ begins p (characters u)
+            → {m : ℕ} → m ≡ cond b (n + 1) n → Counting s t r p (y .next) (left - 1) m
+        count-next w {b} e {m} q =
             let rest = counted p (names (bareFields (this .others))) in
-            let z : b ≡ begins p (nameOf s (word t here 1) (word t here 2)) = rw (g .first, g .last) at e in
+            let z : b ≡ begins p (nameOf s (word t here 1) (word t here 2)) = rw (w, g .first, g .last) at e in
             record {
               fields = this .others;
               ahead = this .behind h;
@@ -114,6 +121,13 @@ module _ {s t : List ℕ} {r : ℕ} {p : List ℕ} where
             sum false q k = omega arith
 
 -- ---- the names of an Object definition: those of its required fields, then those of its optional ones
+
+module _ {s t : List ℕ} {r : ℕ} (o : GenericRow s t r Object) (d : DefinedRow s t r) {v : ℕ} where
+  abbrev pub required-found : Finds s t (r + 2) (characters (text "required")) v → FieldsRow s t v
+  required-found f = required-fields o (rw (spelled .required) at f) d
+
+  abbrev pub optional-found : Finds s t (r + 2) (characters (text "optional")) v → FieldsRow s t v
+  optional-found f = optional-fields o (rw (spelled .optional) at f) d
 
 counted-append : (p : List ℕ) (ns ms : List (List ℕ)) → counted p (ns ++ ms) ≡ counted p ns + counted p ms
 counted-append p [] ms = omega arith
@@ -143,10 +157,10 @@ module _ {s t : List ℕ} {p : List ℕ} where
   count-few f h =
       omega (arith, h .tells f, counted-few p (names (bareFields (f .fields))), names-few s (f .part .members) (f .fields) (f .defines), part-few (f .part))
 
-  pub count-both : {r v w n m : ℕ} (o : GenericRow s t r Object) → Finds s t (r + 2) (text "required") v → Finds s t (r + 2) (text "optional") w
-      → CountsFields s t v p n → CountsFields s t w p m → CountsNames s t r p (n + m)
+  pub count-both : {r v w n m : ℕ} (o : GenericRow s t r Object) → Finds s t (r + 2) (characters (text "required")) v
+      → Finds s t (r + 2) (characters (text "optional")) w → CountsFields s t v p n → CountsFields s t w p m → CountsNames s t r p (n + m)
   count-both o f g h k = record {
-    tells = λ d. rw (object-fields o d .is, counted-append) (omega (arith, h .tells (required-fields o f d), k .tells (optional-fields o g d)));
+    tells = λ d. rw (object-fields o d .is, counted-append) (omega (arith, h .tells (required-found o d f), k .tells (optional-found o d g)));
   }
 
 -- ---- the letters of the fresh name of the definition at row r
@@ -180,8 +194,11 @@ module _ {s t : List ℕ} {r : ℕ} {before : List ℕ} {n : ℕ} {out : List �
   next = nextLetter (g .done) own
 
   -- there is room for those that follow
-  pub letters-lent : Lent before n out (g .done) (length (lettersFrom (g .left) (g .done) own))
+  letters-lent : Lent before n out (g .done) (length (lettersFrom (g .left) (g .done) own))
   letters-lent = lent (g .wrote) (omega (arith, g .fits, ap length (g .splits), length-append (g .done) (lettersFrom (g .left) (g .done) own), g .wrote .count))
+
+  pub letters-same : length out ≡ length before
+  letters-same = letters-lent .same
 
   pub letters-in : n ≤ length out
   letters-in = omega (arith, letters-lent .room, letters-lent .same)
@@ -232,6 +249,24 @@ module _ {s t : List ℕ} {r : ℕ} {before : List ℕ} {n : ℕ} {out : List �
         length-append (g .done) (next ∷ []),
       )
 
+      pub letters-room : n < length before
+      letters-room = omega (arith, letters-more, letters-same)
+
+      -- a letter at that place, and another one
+      module _ (x : ℕ) where
+        pub one-at : n < length (set out n x)
+        one-at = simp length-set letters-more
+
+        pub one-in : n + 1 ≤ length (set out n x)
+        one-in = omega (arith, one-at)
+
+        module _ (y : ℕ) where
+          pub two-at : n < length (set (set out n x) n y)
+          two-at = simp length-set letters-more
+
+          pub two-in : n + 1 ≤ length (set (set out n x) n y)
+          two-in = omega (arith, two-at)
+
       -- how many go on with the letter c
       with : (c : ℕ) {x : ℕ} → CountsNames s t r (take (n + 1) (set out n c)) x → x ≡ counted (g .done ++ c ∷ []) own
       with c q =
@@ -274,21 +309,47 @@ beyond-as f h = record { tells = λ d. rw (f d) h }
 pub beyond-same : {s t : List ℕ} {r : ℕ} (e d : DefinedRow s t r) → spell (beyondNamed (bare (d .definition))) ≡ spell (beyondNamed (bare (e .definition)))
 beyond-same e d = ap (λ (x : Located). spell (beyondNamed (bare x))) (same-definition d e)
 
+module _ {s t : List ℕ} {r : ℕ} {w : List ℕ} (k : (d : DefinedRow s t r) → spell (beyondNamed (bare (d .definition))) ≡ w) where
+  beyond-fits : {room : ℕ} → BeyondReady s t r room → length w ≤ room
+  beyond-fits p = omega (arith, p .fits, ap length (k (p .row)))
+
 module _ {s t : List ℕ} {r : ℕ} {g : Generic} (h : GenericRow s t r g) where
-  pub beyond-array : g ≡ Array → (d : DefinedRow s t r) → spell (beyondNamed (bare (d .definition))) ≡ text "[]"
+  beyond-array : g ≡ Array → (d : DefinedRow s t r) → spell (beyondNamed (bare (d .definition))) ≡ text "[]"
   beyond-array e d = rw (in-array d (of-kind h e d) .is) refl
 
-  pub beyond-map : g ≡ Map → (d : DefinedRow s t r) → spell (beyondNamed (bare (d .definition))) ≡ text "{}"
+  pub beyond-array-fits : g ≡ Array → {room : ℕ} → BeyondReady s t r room → 2 ≤ room
+  beyond-array-fits e = beyond-fits (beyond-array e)
+
+  pub beyond-array-written : g ≡ Array → {n : ℕ} {out out₂ : List ℕ} → Writes (text "[]") n out out₂ → BeyondWritten s t r n out out₂
+  beyond-array-written e = beyond-as (beyond-array e)
+
+  beyond-map : g ≡ Map → (d : DefinedRow s t r) → spell (beyondNamed (bare (d .definition))) ≡ text "{}"
   beyond-map e d = rw (in-map d (of-kind h e d) .is) refl
 
-  pub beyond-name : g ≡ Other → {k : TypeName} → TypeRow s t r k → (d : DefinedRow s t r) → spell (beyondNamed (bare (d .definition))) ≡ spell (apartBy (typeOf k))
-  beyond-name e {k} q d = go (d .definition) (of-kind h e d) (q .tells d)
-    where
-      go : (x : Located) → Other ≡ genericIn x → k ≡ typeIn x → spell (beyondNamed (bare x)) ≡ spell (apartBy (typeOf k))
-      go (named-at p t) z w = sym (ap (λ (k : TypeName). spell (apartBy (typeOf k))) w ∙ ap (λ (m : Option Named). spell (apartBy m)) (of-name t))
-      go (array-at p x) z w = absurd (let z : _≡_ {A = ℕ} 0 1 = cc in omega arith)
-      go (map-at p x) z w = absurd (let z : _≡_ {A = ℕ} 0 1 = cc in omega arith)
-      go (object-at p x y) z w = absurd (let z : _≡_ {A = ℕ} 0 1 = cc in omega arith)
+  pub beyond-map-fits : g ≡ Map → {room : ℕ} → BeyondReady s t r room → 2 ≤ room
+  beyond-map-fits e = beyond-fits (beyond-map e)
+
+  pub beyond-map-written : g ≡ Map → {n : ℕ} {out out₂ : List ℕ} → Writes (text "{}") n out out₂ → BeyondWritten s t r n out out₂
+  beyond-map-written e = beyond-as (beyond-map e)
+
+  pub beyond-object : g ≡ Object → GenericRow s t r Object
+  beyond-object e = rw e at h
+
+  module _ (e : g ≡ Other) {k : TypeName} (q : TypeRow s t r k) where
+    beyond-name : (d : DefinedRow s t r) → spell (beyondNamed (bare (d .definition))) ≡ spell (apartBy (typeOf k))
+    beyond-name d = go (d .definition) (of-kind h e d) (q .tells d)
+      where
+        go : (x : Located) → Other ≡ genericIn x → k ≡ typeIn x → spell (beyondNamed (bare x)) ≡ spell (apartBy (typeOf k))
+        go (named-at p t) z w = sym (ap (λ (k : TypeName). spell (apartBy (typeOf k))) w ∙ ap (λ (m : Option Named). spell (apartBy m)) (of-name t))
+        go (array-at p x) z w = never (cc)
+        go (map-at p x) z w = never (cc)
+        go (object-at p x y) z w = never (cc)
+
+    pub beyond-name-fits : {room : ℕ} → BeyondReady s t r room → length (spell (apartBy (typeOf k))) ≤ room
+    beyond-name-fits = beyond-fits beyond-name
+
+    pub beyond-name-written : (n : ℕ) (out out₂ : List ℕ) → Writes (spell (apartBy (typeOf k))) n out out₂ → BeyondWritten s t r n out out₂
+    beyond-name-written n out out₂ = beyond-as beyond-name
 
 -- ---- an object with one member more: its name is fresh
 

@@ -76,7 +76,7 @@ name-written {lead = lead} g = record { tells = λ e q. lent-last g (omega arith
 -- ---- the values that stand for type names
 
 -- of the types whose tags are left, each value is null
-pub null-named : (t : TypeName) → OneOf (0 ∷ 7 ∷ []) (tagOf the-type t) → text "null" ≡ spell (plainBy (typeOf t))
+null-named : (t : TypeName) → OneOf (0 ∷ 7 ∷ []) (tagOf the-type t) → text "null" ≡ spell (plainBy (typeOf t))
 null-named Json h = refl
 null-named Schema h = absurd (miss (0 ∷ 7 ∷ []) 1 tt h)
 null-named Float h = absurd (miss (0 ∷ 7 ∷ []) 2 tt h)
@@ -86,8 +86,23 @@ null-named Boolean h = absurd (miss (0 ∷ 7 ∷ []) 5 tt h)
 null-named DateTime h = absurd (miss (0 ∷ 7 ∷ []) 6 tt h)
 null-named Unknown h = refl
 
+-- the type t is x
+module _ (x : TypeName) {t : TypeName} (e : t ≡ x) where
+  pub plain-fits : (room : ℕ) → length (spell (plainBy (typeOf t))) ≤ room → length (spell (plainBy (typeOf x))) ≤ room
+  plain-fits room l = rw e at l
+
+  pub plain-written : (n : ℕ) (out out₂ : List ℕ) → Writes (spell (plainBy (typeOf x))) n out out₂ → Writes (spell (plainBy (typeOf t))) n out out₂
+  plain-written n out out₂ h = rw e h
+
+module _ (t : TypeName) (o : OneOf (0 ∷ 7 ∷ []) (tagOf the-type t)) where
+  pub null-fits : (room : ℕ) → length (spell (plainBy (typeOf t))) ≤ room → length (text "null") ≤ room
+  null-fits room l = rw (sym (null-named t o)) at l
+
+  pub null-written : (n : ℕ) (out out₂ : List ℕ) → Writes (text "null") n out out₂ → Writes (spell (plainBy (typeOf t))) n out out₂
+  null-written n out out₂ h = rw (sym (null-named t o)) h
+
 -- a schema alone has another value that stands apart
-pub apart-plain : (t : TypeName) → OneOf (0 ∷ 2 ∷ 3 ∷ 4 ∷ 5 ∷ 6 ∷ 7 ∷ []) (tagOf the-type t) → plainBy (typeOf t) ≡ apartBy (typeOf t)
+apart-plain : (t : TypeName) → OneOf (0 ∷ 2 ∷ 3 ∷ 4 ∷ 5 ∷ 6 ∷ 7 ∷ []) (tagOf the-type t) → plainBy (typeOf t) ≡ apartBy (typeOf t)
 apart-plain Json h = refl
 apart-plain Schema h = absurd (miss (0 ∷ 2 ∷ 3 ∷ 4 ∷ 5 ∷ 6 ∷ 7 ∷ []) 1 tt h)
 apart-plain Float h = refl
@@ -96,3 +111,17 @@ apart-plain Text h = refl
 apart-plain Boolean h = refl
 apart-plain DateTime h = refl
 apart-plain Unknown h = refl
+
+module _ {t : TypeName} (e : t ≡ Schema) where
+  pub apart-fits : (room : ℕ) → length (spell (apartBy (typeOf t))) ≤ room → length (spell (apartBy (typeOf Schema))) ≤ room
+  apart-fits room l = rw e at l
+
+  pub apart-written : (n : ℕ) (out out₂ : List ℕ) → Writes (spell (apartBy (typeOf Schema))) n out out₂ → Writes (spell (apartBy (typeOf t))) n out out₂
+  apart-written n out out₂ h = rw e h
+
+module _ (t : TypeName) (o : OneOf (0 ∷ 2 ∷ 3 ∷ 4 ∷ 5 ∷ 6 ∷ 7 ∷ []) (tagOf the-type t)) where
+  pub other-fits : (room : ℕ) → length (spell (apartBy (typeOf t))) ≤ room → length (spell (plainBy (typeOf t))) ≤ room
+  other-fits room l = rw (apart-plain t o) l
+
+  pub other-written : (n : ℕ) (out out₂ : List ℕ) → Writes (spell (plainBy (typeOf t))) n out out₂ → Writes (spell (apartBy (typeOf t))) n out out₂
+  other-written n out out₂ h = rw (sym (apart-plain t o)) h

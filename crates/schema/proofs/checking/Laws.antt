@@ -1,4 +1,4 @@
--- Reading and accepting on plain values: how the answers of Check follow from those of its steps.
+-- Check on plain values: how its answer and the tables it leaves follow from its steps, which are accepting the schema, reading the document and judging it.
 use Prim.Native.Nat.{ℕ}
 use mathlib.Core.Path.{_≡_, refl, sym, ap, _∙_}
 use mathlib.Core.List.{List}
@@ -21,7 +21,33 @@ use Rattle.schema.specs.declared.judging.Mismatch.{Mismatch}
 use Rattle.definitions.proofs.Facts.{Takes, Way, accept-way, HasRead, has-read, has-rows}
 use Rattle.schema.proofs.checking.Zero.{check-zero}
 
--- ---- Check: a is the answer of accepting the schema, and u₂ its table then
+-- ---- what Check promises
+
+-- of the answer r and the tables u₁ and u₂ that it leaves, for a document s₁ and a schema s₂ with tables t₁ and t₂
+abbrev pub Promised : List ℕ → List ℕ → List ℕ → List ℕ → Answer → List ℕ → List ℕ → Type 0
+Promised s₁ s₂ t₁ t₂ r u₁ u₂ =
+    (r ≡ checkAnswer (length t₁) (length t₂) s₁ s₂)
+    × ((u₁ ≡ checkTable t₁ (length t₂) s₁ s₂) × ((u₂ ≡ tableOf t₂ (readSchema s₂)) × ((r .code ≡ 0) ↔ Meeting (length t₁) (length t₂) s₁ s₂)))
+
+whole : (s₁ s₂ t₁ t₂ : List ℕ) {r : Answer} {u₁ u₂ : List ℕ} → r ≡ checkAnswer (length t₁) (length t₂) s₁ s₂ → u₁ ≡ checkTable t₁ (length t₂) s₁ s₂
+    → u₂ ≡ tableOf t₂ (readSchema s₂) → Promised s₁ s₂ t₁ t₂ r u₁ u₂
+whole s₁ s₂ t₁ t₂ p x y =
+    let k = ap (λ (b : Answer). b .code) p in
+    let m = check-zero (length t₁) (length t₂) s₁ s₂ in
+    (p, (x, (y, (λ z. m .0 (sym k ∙ z), λ h. k ∙ m .1 h))))
+
+-- ---- the schema is not accepted
+
+pub check-unaccepted : (s₁ s₂ t₁ t₂ : List ℕ) {a : Answer} {u₂ : List ℕ} → a ≡ acceptAnswer (accept 2 (length t₂) s₂) → u₂ ≡ tableOf t₂ (readSchema s₂)
+    → (a .code ≡ 0 → ⊥) → Promised s₁ s₂ t₁ t₂ a t₁ u₂
+unfolding checkAnswer checkTable
+check-unaccepted s₁ s₂ t₁ t₂ {a} q y n = let x = go (accept 2 (length t₂) s₂) q in whole s₁ s₂ t₁ t₂ (x .0) (x .1) y
+  where
+    go : (x : Accepted) → a ≡ acceptAnswer x → (a ≡ checkedAs x (length t₁) s₁) × (t₁ ≡ tableAfter x t₁ s₁)
+    go (not-accepted b) e = (e, refl)
+    go (accepted d) e = absurd (n (ap (λ (b : Answer). b .code) e))
+
+-- ---- the schema is accepted, and the document read
 
 -- a document that is refused, or has no room
 unjudged : (d : Located) (w : ℕ) (s : List ℕ) (o : Parse Node) → (answerOf 1 w o .code ≡ 0 → ⊥) → answerOf 1 w o ≡ judgedAs d w s o
@@ -47,65 +73,51 @@ has-accepted s t = go (accept 2 (length t) s) refl (accept-way 2 (length t) s)
     go (not-accepted a) q h z = absurd (omega (arith, h .0))
     go (accepted d) q h z = record { definition = d; accepts = q; takes = h .0 }
 
-module _ (s₁ s₂ t₁ t₂ : List ℕ) {a : Answer} {u₂ : List ℕ} (q : a ≡ acceptAnswer (accept 2 (length t₂) s₂)) (y : u₂ ≡ tableOf t₂ (readSchema s₂)) where
-  -- what Check promises of an answer and of the document's table
-  abbrev pub Promised : Answer → List ℕ → Type 0
-  Promised r u₁ = (r ≡ checkAnswer (length t₁) (length t₂) s₁ s₂) × (u₁ ≡ checkTable t₁ (length t₂) s₁ s₂)
+-- the schema is accepted, so that its table is u₂; b is what reading the document answers, and u₁ its table then
+pub record BothRead (s₁ s₂ t₁ t₂ : List ℕ) (b : Answer) (u₁ u₂ : List ℕ) : Type 0 where
+  pub accepting : Answer
+  pub accepts : accepting ≡ acceptAnswer (accept 2 (length t₂) s₂)
+  pub zero : accepting .code ≡ 0
+  pub table : u₂ ≡ tableOf t₂ (readSchema s₂)
+  pub reads : b ≡ answerOf 1 (length t₁) (readDocument s₁)
+  pub rows : u₁ ≡ tableOf t₁ (readDocument s₁)
 
-  pub check-unaccepted : (a .code ≡ 0 → ⊥) → Promised a t₁
+module _ {s₁ s₂ t₁ t₂ : List ℕ} {b : Answer} {u₁ u₂ : List ℕ} (i : BothRead s₁ s₂ t₁ t₂ b u₁ u₂) where
+  taken : HasAccepted s₂ t₂
+  taken = has-accepted s₂ t₂ (sym (ap (λ (c : Answer). c .code) (i .accepts)) ∙ i .zero)
+
+  -- the document's answer is Check's, and its table is as Read leaves it
+  promised : {r : Answer} → r ≡ judgedAs (taken .definition) (length t₁) s₁ (readDocument s₁) → Promised s₁ s₂ t₁ t₂ r u₁ u₂
   unfolding checkAnswer checkTable
-  check-unaccepted n = go (accept 2 (length t₂) s₂) q
-    where
-      go : (x : Accepted) → a ≡ acceptAnswer x → (a ≡ checkedAs x (length t₁) s₁) × (t₁ ≡ tableAfter x t₁ s₁)
-      go (not-accepted b) e = (e, refl)
-      go (accepted d) e = absurd (n (ap (λ (b : Answer). b .code) e))
+  promised e = let q = taken .accepts in whole s₁ s₂ t₁ t₂ (rw q e) (rw q (i .rows)) (i .table)
 
-  module _ (z : a .code ≡ 0) where
-    taken : HasAccepted s₂ t₂
-    taken = has-accepted s₂ t₂ (sym (ap (λ (b : Answer). b .code) q) ∙ z)
+  pub check-unread : (b .code ≡ 0 → ⊥) → Promised s₁ s₂ t₁ t₂ b u₁ u₂
+  check-unread n = promised (i .reads ∙ unjudged (taken .definition) (length t₁) s₁ (readDocument s₁) (λ e. n (ap (λ (c : Answer). c .code) (i .reads) ∙ e)))
 
-    -- the document's answer is Check's, and its table is as Read leaves it
-    promised : {r : Answer} {u₁ : List ℕ} → r ≡ judgedAs (taken .definition) (length t₁) s₁ (readDocument s₁) → u₁ ≡ tableOf t₁ (readDocument s₁) → Promised r u₁
-    unfolding checkAnswer checkTable
-    promised e f = rw (taken .accepts) (e, f)
+  module _ (v : b .code ≡ 0) where
+    read₁ : HasRead documentLimits s₁ t₁
+    read₁ = has-read documentLimits 1 s₁ t₁ (sym (ap (λ (c : Answer). c .code) (i .reads)) ∙ v)
 
-    module _ {b : Answer} {u₁ : List ℕ} (r : b ≡ answerOf 1 (length t₁) (readDocument s₁)) (x : u₁ ≡ tableOf t₁ (readDocument s₁)) where
-      pub check-unread : (b .code ≡ 0 → ⊥) → Promised b u₁
-      check-unread n = promised (r ∙ unjudged (taken .definition) (length t₁) s₁ (readDocument s₁) (λ e. n (ap (λ (c : Answer). c .code) r ∙ e))) x
+    read₂ : HasRead schemaLimits s₂ t₂
+    read₂ = let k = taken .takes in record { tree = k .tree; end = k .read .end; reads = k .read .reads; room = k .read .room }
 
-      module _ (v : b .code ≡ 0) where
-        read₁ : HasRead documentLimits s₁ t₁
-        read₁ = has-read documentLimits 1 s₁ t₁ (sym (ap (λ (c : Answer). c .code) r) ∙ v)
+    given : Judgeable s₁ s₂ (tableOf t₁ (readDocument s₁)) (tableOf t₂ (readSchema s₂)) 0 0
+    unfolding read₂
+    given = record { document = has-rows read₁; schema = has-rows read₂; definition = taken .definition; defines = taken .takes .defines }
 
-        read₂ : HasRead schemaLimits s₂ t₂
-        read₂ = let k = taken .takes in record { tree = k .tree; end = k .read .end; reads = k .read .reads; room = k .read .room }
+    pub check-judgeable : Judgeable s₁ s₂ u₁ u₂ 0 0
+    check-judgeable = rw (i .rows, i .table) given
 
-        given : Judgeable s₁ s₂ (tableOf t₁ (readDocument s₁)) (tableOf t₂ (readSchema s₂)) 0 0
-        unfolding read₂
-        given = record { document = has-rows read₁; schema = has-rows read₂; definition = taken .definition; defines = taken .takes .defines }
+    module _ {m : Mismatch} (j : Judged s₁ s₂ u₁ u₂ 0 0 m) where
+      told : m ≡ mismatchAt s₁ (taken .definition) (read₁ .tree)
+      unfolding given
+      told = (rw (i .rows, i .table) at j) .tells given
 
-        pub check-judgeable : Judgeable s₁ s₂ u₁ u₂ 0 0
-        check-judgeable = rw (x, y) given
+      judges : judgedAs (taken .definition) (length t₁) s₁ (readDocument s₁) ≡ mismatchAnswer m
+      judges = rw (read₁ .reads, le-leb (size (read₁ .tree)) (rowsIn (length t₁)) (read₁ .room), ← told)
 
-        module _ {m : Mismatch} (j : Judged s₁ s₂ u₁ u₂ 0 0 m) where
-          told₂ : m ≡ mismatchAt s₁ (taken .definition) (read₁ .tree)
-          unfolding given
-          told₂ = (rw (x, y) at j) .tells given
+      pub check-meets : {c : Answer} → m .code ≡ 0 → c ≡ answer 0 0 0 0 → Promised s₁ s₂ t₁ t₂ c u₁ u₂
+      check-meets n e = promised (e ∙ sym (judges ∙ rw (eq-eqb (m .code) 0 n)))
 
-          judges : judgedAs (taken .definition) (length t₁) s₁ (readDocument s₁) ≡ mismatchAnswer m
-          judges = rw (read₁ .reads, le-leb (size (read₁ .tree)) (rowsIn (length t₁)) (read₁ .room), ← told₂)
-
-          pub check-meets : {c : Answer} → m .code ≡ 0 → c ≡ answer 0 0 0 0 → Promised c u₁
-          check-meets n e = promised (e ∙ sym (judges ∙ rw (eq-eqb (m .code) 0 n))) x
-
-          pub check-mismatch : {c : Answer} → (m .code ≡ 0 → ⊥) → c ≡ answer (m .code) 1 (m .place) (m .other) → Promised c u₁
-          check-mismatch n e = promised (e ∙ sym (judges ∙ rw (ne-eqb (m .code) 0 n))) x
-
--- the whole promise of Check, for a document s₁ and a schema s₂ with tables t₁ and t₂
-pub whole : (s₁ s₂ t₁ t₂ : List ℕ) {r : Answer} {u₁ u₂ : List ℕ} → (r ≡ checkAnswer (length t₁) (length t₂) s₁ s₂) × (u₁ ≡ checkTable t₁ (length t₂) s₁ s₂) → u₂ ≡ tableOf t₂ (readSchema s₂)
-    → (r ≡ checkAnswer (length t₁) (length t₂) s₁ s₂)
-    × ((u₁ ≡ checkTable t₁ (length t₂) s₁ s₂) × ((u₂ ≡ tableOf t₂ (readSchema s₂)) × ((r .code ≡ 0) ↔ Meeting (length t₁) (length t₂) s₁ s₂)))
-whole s₁ s₂ t₁ t₂ p y =
-    let k = ap (λ (b : Answer). b .code) (p .0) in
-    let m = check-zero (length t₁) (length t₂) s₁ s₂ in
-    (p .0, (p .1, (y, (λ z. m .0 (sym k ∙ z), λ h. k ∙ m .1 h))))
+      pub check-mismatch : {c : Answer} → (m .code ≡ 0 → ⊥) → c ≡ answer (m .code) 1 (m .place) (m .other) → Promised s₁ s₂ t₁ t₂ c u₁ u₂
+      check-mismatch n e = promised (e ∙ sym (judges ∙ rw (ne-eqb (m .code) 0 n)))

@@ -84,7 +84,8 @@ mutual
   mismatch-coded s (object-at p r o) n =
       object-coded n p _ (λ ms. or-coded _ _ (fields-coded s (missing (placeOf n)) (λ q. inr (omega arith)) r ms) (fields-coded s skipped (λ q. inl refl) o ms))
 
-  fields-coded : (s : List ℕ) (absent : ℕ → Mismatch) → ((q : ℕ) → Coded (absent q)) → (fs : LocatedFields) (ms : Members) → Coded (fieldsMismatch s absent fs ms)
+  fields-coded : (s : List ℕ) (absent : ℕ → Mismatch) → ((q : ℕ) → Coded (absent q)) → (fs : LocatedFields) (ms : Members)
+      → Coded (fieldsMismatch s absent fs ms)
   fields-coded s absent h no-field ms = inl refl
   fields-coded s absent h (field q n d fs) ms =
       or-coded _ _ (judged-coded (lookup s n ms) (absent q) (λ m. mismatchAt s d m) (h q) (λ m. mismatch-coded s d m)) (fields-coded s absent h fs ms)

@@ -1,4 +1,5 @@
--- The mismatch that is named is one, and the first in the order of judging: a value that is judged fails its definition, and all that is judged before it meets.
+-- The mismatch that is named is one, and the first in the order of judging: a value that is judged fails its definition, and all that is judged
+-- before it meets.
 use Prim.Native.Nat.{ℕ}
 use mathlib.Core.Path.{_≡_, refl, ap, _∙_}
 use mathlib.Core.Logic.{_⊎_, inl, inr}
@@ -52,7 +53,15 @@ first-element j no-node h = absurd (h refl)
 first-element j (more n ns) h = elim (or-ways (j n) (firstElement j ns) h) [
   | inl w ↦ record { before = no-node; it = n; after = ns; splits = refl; passed = tt; fails = w .0; is = w .1 }
   | inr w ↦ (let x = first-element j ns (w .1) in
-      record { before = more n (x .before); it = x .it; after = x .after; splits = ap (more n) (x .splits); passed = (w .0, x .passed); fails = x .fails; is = w .2 ∙ x .is })
+      record {
+        before = more n (x .before);
+        it = x .it;
+        after = x .after;
+        splits = ap (more n) (x .splits);
+        passed = (w .0, x .passed);
+        fails = x .fails;
+        is = w .2 ∙ x .is;
+      })
 ]
 
 -- a member whose value has one; the values of those before it have none
@@ -72,7 +81,17 @@ first-member j no-member h = absurd (h refl)
 first-member j (member f e n ms) h = elim (or-ways (j n) (firstMember j ms) h) [
   | inl w ↦ record { before = no-member; first = f; last = e; it = n; after = ms; splits = refl; passed = tt; fails = w .0; is = w .1 }
   | inr w ↦ (let x = first-member j ms (w .1) in
-      record { before = member f e n (x .before); first = x .first; last = x .last; it = x .it; after = x .after; splits = ap (member f e n) (x .splits); passed = (w .0, x .passed); fails = x .fails; is = w .2 ∙ x .is })
+      record {
+        before = member f e n (x .before);
+        first = x .first;
+        last = x .last;
+        it = x .it;
+        after = x .after;
+        splits = ap (member f e n) (x .splits);
+        passed = (w .0, x .passed);
+        fails = x .fails;
+        is = w .2 ∙ x .is;
+      })
 ]
 
 -- what a field says of the members
@@ -91,7 +110,8 @@ pub record FirstField (s : List ℕ) (absent : ℕ → Mismatch) (fs : LocatedFi
   pub fails : fieldAt s absent quote name definition ms .code ≡ 0 → ⊥
   pub is : fieldsMismatch s absent fs ms ≡ fieldAt s absent quote name definition ms
 
-pub first-field : (s : List ℕ) (absent : ℕ → Mismatch) (fs : LocatedFields) (ms : Members) → (fieldsMismatch s absent fs ms .code ≡ 0 → ⊥) → FirstField s absent fs ms
+pub first-field : (s : List ℕ) (absent : ℕ → Mismatch) (fs : LocatedFields) (ms : Members) → (fieldsMismatch s absent fs ms .code ≡ 0 → ⊥)
+    → FirstField s absent fs ms
 first-field s absent no-field ms h = absurd (h refl)
 first-field s absent (field q k d fs) ms h = elim (or-ways (fieldAt s absent q k d ms) (fieldsMismatch s absent fs ms) h) [
   | inl w ↦ record { before = no-field; quote = q; name = k; definition = d; after = fs; splits = refl; passed = refl; fails = w .0; is = w .1 }
@@ -129,7 +149,15 @@ module _ (s : List ℕ) where
   onward : {d₁ d₂ : Located} {n₁ n₂ : Node} {m₁ m₂ : Mismatch} → Real s d₂ n₂ m₂
       → ((d : Located) (n : Node) → Judges s d₂ n₂ d n → Judges s d₁ n₁ d n) → m₁ ≡ m₂ → Real s d₁ n₁ m₁
   onward r f e =
-      rw e (record { definition = r .definition; judged-value = r .judged-value; judges = f (r .definition) (r .judged-value) (r .judges); placed = r .placed; place = r .place; unmet = r .unmet; fails = r .fails })
+      rw e (record {
+        definition = r .definition;
+        judged-value = r .judged-value;
+        judges = f (r .definition) (r .judged-value) (r .judges);
+        placed = r .placed;
+        place = r .place;
+        unmet = r .unmet;
+        fails = r .fails;
+      })
 
   -- ---- type names
 
@@ -212,7 +240,8 @@ module _ (s : List ℕ) where
       onward (h (x .it) (y .1 .1) (y .2 .2) (x .fails)) (λ d₂ n₂ j. value (x .before) (x .first) (x .last) (x .after) (x .splits) (y .0) j) (x .is)
 
   module _ (p f e : ℕ) (r o : LocatedFields) (ms : Members) (l : Placed s (object f e ms)) (i : AreMembers (membersOf s ms)) where
-    required-real : AllReals r → (fieldsMismatch s (missing f) r ms .code ≡ 0 → ⊥) → Real s (object-at p r o) (object f e ms) (fieldsMismatch s (missing f) r ms)
+    required-real : AllReals r → (fieldsMismatch s (missing f) r ms .code ≡ 0 → ⊥)
+        → Real s (object-at p r o) (object f e ms) (fieldsMismatch s (missing f) r ms)
     required-real h z = by-value (lookup s (x .name) ms) refl (x .fails) (x .is)
       where
         x : FirstField s (missing f) r ms

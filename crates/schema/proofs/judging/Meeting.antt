@@ -1,6 +1,6 @@
 -- A value has no mismatch with a definition exactly where it meets it (01, "Meeting").
 use Prim.Native.Nat.{ℕ}
-use mathlib.Core.Path.{_≡_, refl, sym}
+use mathlib.Core.Path.{_≡_, refl, sym, _∙_}
 use mathlib.Core.Logic.{inl, inr, _↔_}
 use mathlib.Core.Bool.{Bool, true, false, cond, false≢true}
 use mathlib.Core.Option.{Option, none, some}
@@ -38,7 +38,7 @@ or-none a b =
 
 unless-none : (ok test : Bool) → ok ≡ test → (f p : ℕ) → (unless ok f p .code ≡ 0) ↔ (test ≡ true)
 unless-none true test e f p = (λ _. sym e, λ _. refl)
-unless-none false test e f p = (λ z. absurd (omega arith), λ t. absurd (let z : _≡_ {A = ℕ} 0 1 = cc in omega arith))
+unless-none false test e f p = (λ z. absurd (omega arith), λ t. absurd (false≢true (e ∙ t)))
 
 -- ---- type names
 

@@ -72,11 +72,13 @@ pub data Judges (s : List ℕ) : Located → Node → Located → Node → Type 
       → ms ≡ joinMembers before (member g h x after) → EachMember (MeetsAt s d) before
       → Judges s d x d₂ n₂ → Judges s (map-at p d) (object f e ms) d₂ n₂
   -- "names of "required" in schema order"
-  required : {p f e : ℕ} {r o : LocatedFields} {d d₂ : Located} {ms : Members} {x n₂ : Node} (before : LocatedFields) (q : ℕ) (k : List ℕ) (after : LocatedFields)
+  required : {p f e : ℕ} {r o : LocatedFields} {d d₂ : Located} {ms : Members} {x n₂ : Node}
+      (before : LocatedFields) (q : ℕ) (k : List ℕ) (after : LocatedFields)
       → r ≡ joinFields before (field q k d after) → FieldsFound s before ms → lookup s k ms ≡ some x
       → Judges s d x d₂ n₂ → Judges s (object-at p r o) (object f e ms) d₂ n₂
   -- "then those of "optional" that are present, in schema order"
-  optional : {p f e : ℕ} {r o : LocatedFields} {d d₂ : Located} {ms : Members} {x n₂ : Node} (before : LocatedFields) (q : ℕ) (k : List ℕ) (after : LocatedFields)
+  optional : {p f e : ℕ} {r o : LocatedFields} {d d₂ : Located} {ms : Members} {x n₂ : Node}
+      (before : LocatedFields) (q : ℕ) (k : List ℕ) (after : LocatedFields)
       → FieldsFound s r ms → o ≡ joinFields before (field q k d after) → FieldsMeetAt s before ms → lookup s k ms ≡ some x
       → Judges s d x d₂ n₂ → Judges s (object-at p r o) (object f e ms) d₂ n₂
 
@@ -226,7 +228,8 @@ module _ (s : List ℕ) where
   in-among no-node x after = inl refl
   in-among (more n ns) x after = inr (in-among ns x after)
 
-  in-under : (before : Members) (f e : ℕ) (x : Node) (after : Members) → Under (nameOf s f e) (valueOf s x) (membersOf s (joinMembers before (member f e x after)))
+  in-under : (before : Members) (f e : ℕ) (x : Node) (after : Members)
+      → Under (nameOf s f e) (valueOf s x) (membersOf s (joinMembers before (member f e x after)))
   in-under no-member f e x after = inl (refl, refl)
   in-under (member g h n ms) f e x after = inr (in-under ms f e x after)
 

@@ -1,4 +1,4 @@
--- What a row says of its tree; then the members of an object and the elements of an array, one after the other.
+-- A value of a kind that the definition does not take has code 20, at its first byte.
 use Prim.Native.Nat.{ℕ}
 use mathlib.Core.Path.{_≡_, refl}
 use mathlib.Core.List.{List}
@@ -7,8 +7,6 @@ use Rattle.syntax.specs.Tree.{Node, scalar, array, object, Nodes, Members, plac
 use Rattle.schema.specs.Judging.{mismatch, ifArray, ifObject, dateAt}
 use Rattle.schema.specs.declared.judging.Mismatch.{Mismatch}
 use Rattle.rows.proofs.Facts.{kindOf}
-
--- ---- values of other kinds
 
 pub no-array : (n : Node) (p : ℕ) (j : Nodes → Mismatch) → (kindOf n ≡ 7 → ⊥) → ifArray n p j ≡ mismatch 20 (placeOf n) p
 no-array (scalar k f e) p j h = refl

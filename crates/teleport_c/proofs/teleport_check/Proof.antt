@@ -1,26 +1,13 @@
 -- `teleport_check` is `schema::check`, its answer as words.
-use mathlib.Core.Path.{ap, _∙_}
 use borrow.Author.Needs.{needs}
-use Rattle.teleport_c.specs.Words.{answerWords}
+use Rattle.teleport_c.proofs.Laws.{words-of, words-code}
 use Rattle.teleport_c.proofs.teleport_check.Statement.{statement}
 use Rattle.teleport_c.proofs.teleport_check.Tie as tie
 
-check-requires : tie.Need-check-requires
-check-requires c κs = search needs
-
-words-requires : tie.Need-words-requires
-words-requires c κs = search needs
-
-same-length : tie.Need-same-length
-same-length c = search needs
-
-same-length-2 : tie.Need-same-length-2
-same-length-2 c = search needs
-
-returns : tie.Need-returns
-returns c =
-    let r = c .before .before .before .before .before .check .ensures in
-    (c .words .ensures ∙ ap answerWords (r .0), (r .1 .0, (r .1 .1 .0, rw (c .words .ensures) (r .1 .1 .1))))
-
 pub teleport-check-spec : {M : Type 1} → statement M
-teleport-check-spec = tie.close (tie.spec check-requires words-requires same-length same-length-2 returns)
+teleport-check-spec = tie.close (tie.spec
+    (λ c κs. search needs)  -- check-requires
+    (λ c κs. search needs)  -- words-requires
+    (λ c. search needs)  -- same-length
+    (λ c. search needs)  -- same-length-2
+    (λ c. (search words-of, (search, (search, search words-code)))))  -- returns

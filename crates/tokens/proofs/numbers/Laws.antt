@@ -19,7 +19,8 @@ use Rattle.tokens.specs.Spelling.{Spells}
 use Rattle.model.proofs.Basics.{both, and-ways}
 use Rattle.chars.proofs.Facts.{in-text}
 use Rattle.tokens.proofs.Bounds.{Bounded, unexpected-ways, unexpected-bounded}
-use Rattle.tokens.proofs.Pieces.{part-none, part-cons, part-one, part-join, all-append, all-imp, run-all, run-some}
+use Rattle.tokens.proofs.Pieces.{part-none, part-cons, part-one, part-join, run-all, run-some}
+use Rattle.model.proofs.Basics.{all-append, all-imp}
 
 module _ (s : List ℕ) where
   pub sign-least : (j : ℕ) → j ≤ signEnd s j

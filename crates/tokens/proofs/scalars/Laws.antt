@@ -2,6 +2,7 @@
 use mathlib.Core.Path.{_≡_, refl, sym, _∙_, subst}
 use mathlib.Core.List.{List, [], _∷_}
 use mathlib.Core.Bool.{true, false, cond, _||_, _&&_, or-true}
+use mathlib.Core.Logic.{_⊎_, inl, inr}
 use Prim.Native.Nat.{ℕ, _+_, _-_, _≤_, _<_}
 use native.Mathlib.Decide.{decLt}
 use native.Mathlib.Omega.{arith}
@@ -178,10 +179,10 @@ characters-text s = scalars-text (characters s) (scalars s 0)
 
 -- ---- a number of digits alone that begins with no 0, perhaps behind a minus
 
-digit-test : (b : ℕ) → 0x31 ≤ b → b ≤ 0x39 → isDigit b ≡ true
-digit-test b l m = rw (le-leb 0x30 b (omega arith), le-leb b 0x39 m)
+digit-test : (b : ℕ) → 0x30 ≤ b → b ≤ 0x39 → isDigit b ≡ true
+digit-test b l m = rw (le-leb 0x30 b l, le-leb b 0x39 m)
 
-number-digit : (b : ℕ) → 0x31 ≤ b → b ≤ 0x39 → firstOf b ≡ Number
+pub number-digit : (b : ℕ) → 0x30 ≤ b → b ≤ 0x39 → firstOf b ≡ Number
 unfolding firstOf
 number-digit b l m = rw (ne-eqb b 0x22 (λ q. omega arith), ne-eqb b 0x5B (λ q. omega arith), ne-eqb b 0x7B (λ q. omega arith), digit-test b l m)
 
@@ -193,24 +194,36 @@ module _ (s : List ℕ) (i f : ℕ) where
   abbrev ending : ℕ
   ending = digitsEnd s (f + 1)
 
-  -- none begin at f
-  pub digits-below : byteAt s f < 0x31 → digitsFrom s i f ≡ i
-  unfolding digitsFrom
-  digits-below l = rw (lt-leb 0x31 (byteAt s f) l)
+  -- none begin at f, where the byte b stands
+  module _ {b : ℕ} (read : b ≡ byteAt s f) where
+    pub digits-below : b < 0x31 → digitsFrom s i f ≡ i
+    unfolding digitsFrom
+    digits-below l = rw (← read, lt-leb 0x31 b l)
 
-  pub digits-above : 0x31 ≤ byteAt s f → 0x39 < byteAt s f → digitsFrom s i f ≡ i
-  unfolding digitsFrom
-  digits-above l m = rw (le-leb 0x31 (byteAt s f) l, lt-leb (byteAt s f) 0x39 m)
+    pub digits-above : 0x31 ≤ b → 0x39 < b → digitsFrom s i f ≡ i
+    unfolding digitsFrom
+    digits-above l m = rw (← read, le-leb 0x31 b l, lt-leb b 0x39 m)
 
   module _ (l : 0x31 ≤ byteAt s f) (m : byteAt s f ≤ 0x39) where
-    -- x is the byte behind them
-    pub digits-by : {x : ℕ} → x ≡ byteAt s ending → digitsFrom s i f ≡ cond (goesOn x) i ending
-    unfolding digitsFrom
-    digits-by q = rw (le-leb 0x31 (byteAt s f) l, le-leb (byteAt s f) 0x39 m, q)
+    -- they end at e, and x is the byte there: the number goes on with it, or has digits alone
+    module _ {e x : ℕ} (ended : e ≡ ending) (behind : x ≡ byteAt s e) where
+      digits-by : digitsFrom s i f ≡ cond (goesOn x) i e
+      unfolding digitsFrom
+      digits-by = rw (le-leb 0x31 (byteAt s f) l, le-leb (byteAt s f) 0x39 m, ← ended, ← behind)
+
+      pub going-on : (x ≡ 0x2E) ⊎ ((x ≡ 0x45) ⊎ (x ≡ 0x65)) → i ≡ digitsFrom s i f
+      unfolding goesOn
+      going-on (inl q) = rw (digits-by, q)
+      going-on (inr (inl q)) = rw (digits-by, q)
+      going-on (inr (inr q)) = rw (digits-by, q)
+
+      pub digits-alone : (x ≡ 0x2E → ⊥) → (x ≡ 0x45 → ⊥) → (x ≡ 0x65 → ⊥) → e ≡ digitsFrom s i f
+      unfolding goesOn
+      digits-alone n₁ n₂ n₃ = rw (digits-by, ne-eqb x 0x2E n₁, ne-eqb x 0x45 n₂, ne-eqb x 0x65 n₃)
 
     -- the digits behind the first end where all of them do
     all-digits : digitsEnd s f ≡ ending
-    all-digits = run-next isDigit s f (in-text s f (omega arith)) (digit-test (byteAt s f) l m)
+    all-digits = run-next isDigit s f (in-text s f (omega arith)) (digit-test (byteAt s f) (omega arith) m)
 
     begins-on : f < ending
     begins-on = omega (arith, run-from isDigit s (f + 1))
@@ -243,7 +256,7 @@ module _ (s : List ℕ) (i : ℕ) where
 
   no-minus : eqb (byteAt s i) 0x2D ≡ false → IntegerRead i
   unfolding numberAt
-  no-minus t l = let h = from-read s i i l in let n = number-digit (byteAt s i) (h .1) (h .2) in (n, rw (n, t) (h .0))
+  no-minus t l = let h = from-read s i i l in let n = number-digit (byteAt s i) (omega arith) (h .2) in (n, rw (n, t) (h .0))
 
   pub integer-read : IntegerRead (minusEnd s i)
   unfolding minusEnd

@@ -5,55 +5,21 @@ use borrow.Author.Needs.{needs}
 use Rattle.vectors.proofs.each_line.Statement.{statement}
 use Rattle.vectors.proofs.each_line.Tie as tie
 
-abbrev Inv-loop : tie.InvT-loop
-Inv-loop input from₀ from = from ≤ length input + 1
+abbrev Inv : tie.InvT-loop
+Inv input from₀ from = from ≤ length input + 1
 
-abbrev μ-loop : tie.MeasureT-loop
-μ-loop input from₀ from = length input + 1 - from
-
-loop-holds : tie.Need-loop-holds Inv-loop μ-loop
-loop-holds c = search needs
-
-find-requires : tie.Need-find-requires Inv-loop μ-loop
-find-requires c κs = search needs
-
-sub-run : tie.Need-sub-run Inv-loop μ-loop
-sub-run c = search needs
-
-part-run-start : tie.Need-part-run-start Inv-loop μ-loop
-part-run-start c = search needs
-
-part-run-end : tie.Need-part-run-end Inv-loop μ-loop
-part-run-end c = search needs
-
-run-requires : tie.Need-run-requires Inv-loop μ-loop
-run-requires c κs = search needs
-
-add-from : tie.Need-add-from Inv-loop μ-loop
-add-from c = search needs
-
-loop-less : tie.Need-loop-less Inv-loop μ-loop
-loop-less c = search needs
-
-loop-again : tie.Need-loop-again Inv-loop μ-loop
-loop-again c = search needs
-
-returns : tie.Need-returns Inv-loop μ-loop
-returns c = search needs
+abbrev μ : tie.MeasureT-loop
+μ input from₀ from = length input + 1 - from
 
 pub each-line-spec : {M : Type 1} → statement M
-each-line-spec =
-    tie.close
-    (tie.spec
-    Inv-loop
-    μ-loop
-    loop-holds
-    find-requires
-    sub-run
-    part-run-start
-    part-run-end
-    run-requires
-    add-from
-    loop-less
-    loop-again
-    returns)
+each-line-spec = tie.close (tie.spec Inv μ
+    (λ c. search needs)  -- loop-holds
+    (λ c κs. search needs)  -- find-requires
+    (λ c. search needs)  -- sub-run
+    (λ c. search needs)  -- part-run-start
+    (λ c. search needs)  -- part-run-end
+    (λ c κs. search needs)  -- run-requires
+    (λ c. search needs)  -- add-from
+    (λ c. search needs)  -- loop-less
+    (λ c. search needs)  -- loop-again
+    (λ c. search needs))  -- returns

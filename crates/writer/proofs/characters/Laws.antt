@@ -1,14 +1,18 @@
 -- The spelling of a character, by cases.
 use Prim.Native.Nat.{ℕ, _/_, _%_, _+_, _≤_, _<_}
-use mathlib.Core.Path.{_≡_, refl}
+use mathlib.Core.Path.{_≡_, refl, ap, _∙_}
 use mathlib.Core.Bool.{true, false}
-use mathlib.Core.List.{[], _∷_}
+use mathlib.Core.List.{List, [], _∷_}
 use native.Mathlib.Omega.{arith}
+use lib.ListN.{length}
+use lib.Seq.{sets}
 use lib.Dec.{eqb}
 use borrow.Author.Tests.{eqb-true, ne-eqb, lt-ltb, le-ltb}
 use Rattle.model.proofs.Basics.{both}
 use Rattle.grammar.specs.Utf8.{utf8}
-use Rattle.writer.specs.Spell.{isEscaped, letterOf, longForm, spellChar}
+use Rattle.writer.specs.Spell.{isEscaped, letterOf, hexDigit, longForm, spellChar}
+use Rattle.writer.specs.Compact.{over}
+use Rattle.writer.proofs.Over.{over-sets, over-as}
 
 module _ (c : ℕ) where
   -- what has a short form is escaped
@@ -43,6 +47,31 @@ module _ (c : ℕ) where
   unfolding spellChar
   by-utf8 z l = let n = no-letter z in rw (le-ltb c 0x20 l, n .0, n .1)
 
+-- ---- a buffer that has room for the spelling
+
+module _ (c : ℕ) {r : ℕ} (l : r ≡ letterOf c) (n : r ≡ 0 → ⊥) where
+  letter-is : spellChar c ≡ 0x5C ∷ r ∷ []
+  letter-is = rw l (by-short c (λ z. n (l ∙ z)))
+
+  pub short-length : length (spellChar c) ≡ 2
+  short-length = ap length letter-is
+
+  -- the two bytes of a short escape, stored one behind the other
+  pub short-written : (out : List ℕ) → length (spellChar c) ≤ length out → (2 ≡ length (spellChar c)) × (sets out 0 (0x5C ∷ r ∷ []) ≡ over (spellChar c) out)
+  short-written out h = over-as out letter-is h
+
+pub long-ready : (c : ℕ) {m : ℕ} → letterOf c ≡ 0 → c < 0x20 → length (spellChar c) ≤ m → (c < 0x20) × (6 ≤ m)
+long-ready c z l h = (l, omega (arith, ap length (by-long c z l)))
+
+-- the six bytes of the long one
+pub long-written : (c : ℕ) (out : List ℕ) {a b : ℕ} → a ≡ hexDigit (c / 16) → b ≡ hexDigit (c % 16) → 6 ≤ length out
+    → sets out 0 (0x5C ∷ 0x75 ∷ 0x30 ∷ 0x30 ∷ a ∷ b ∷ []) ≡ over (longForm c) out
+long-written c out p q h = rw (p, q) (over-sets out (longForm c) h)
+
+pub utf8-ready : (c : ℕ) {m : ℕ} → letterOf c ≡ 0 → 0x20 ≤ c → (c ≤ 0x10FFFF) × (length (spellChar c) ≤ m) → (c ≤ 0x10FFFF) × (length (utf8 c) ≤ m)
+utf8-ready c z l h = rw (by-utf8 c z l) at h
+
+module _ (c : ℕ) where
   -- ---- UTF-8, by how many bytes it takes
 
   pub utf8-one : c < 0x80 → utf8 c ≡ c ∷ []

@@ -1,3 +1,4 @@
+-- `chars::bytes::digit_at` is `digit` of the byte at the place.
 use borrow.Author.Needs.{needs}
 use Rattle.chars.proofs.bytes.digit_at.Statement.{statement}
 use Rattle.chars.proofs.bytes.digit_at.Tie as tie

@@ -1,3 +1,4 @@
+-- `chars::bytes::highest` meets its contract: each arm by its byte, the last by what it is not.
 use mathlib.Core.Path.{sym, ap}
 use borrow.Author.Tests.{ne-eqb}
 use Rattle.chars.specs.Bytes.{highest}

@@ -1,3 +1,4 @@
+-- `chars::bytes::peek` meets its contract: a byte of the text, or none behind its end.
 use mathlib.Core.Path.{sym}
 use lib.ListN.{List·getD-eq-default}
 use borrow.Author.Needs.{needs}

@@ -1,3 +1,4 @@
+-- `chars::bytes::six_at` is `six_bits` of the byte at the place.
 use borrow.Author.Needs.{needs}
 use Rattle.chars.proofs.bytes.six_at.Statement.{statement}
 use Rattle.chars.proofs.bytes.six_at.Tie as tie

@@ -1,3 +1,4 @@
+-- `chars::bytes::six_bits` meets its contract: below, above and within the bounds.
 use mathlib.Core.Path.{ap}
 use Prim.Native.Nat.{ℕ, _-_}
 use borrow.Author.Tests.{le-leb, lt-leb}

@@ -11,9 +11,11 @@ use Rattle.chars.proofs.characters.char_at.Statement.{statement}
 use Rattle.chars.proofs.characters.char_at.Tie as tie
 
 -- a plain byte was read
-module _ (c : tie.After-wide) where
-  pub byte : charAt (c .before .before .before .before .before .args .text .now) (c .before .before .before .before .before .args .at) ≡ Char (c .wide .result) (c .before .before .before .before .before .args .at + 1)
-  byte = plain-read _ _ (c .before .before .before .peek .ensures) (sym (c .before .before .is-plain .ensures) ∙ c .before .if1 .taken) (c .wide .ensures)
+abbrev read : tie.After-wide → tie.After-peek
+read c = c .before .before .before
+
+byte : (c : tie.After-wide) → let a = read c .before .before .args in charAt (a .text .now) (a .at) ≡ Char (c .wide .result) (a .at + 1)
+byte c = plain-read _ _ (read c .peek .ensures) (sym (c .before .before .is-plain .ensures) ∙ c .before .if1 .taken) (c .wide .ensures)
 
 pub char-at-spec : {M : Type 1} → statement M
 char-at-spec = tie.close (tie.spec

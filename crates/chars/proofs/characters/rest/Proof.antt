@@ -1,23 +1,14 @@
-use native.Mathlib.Omega.{arith}
+-- `chars::characters::rest` meets its contract: by the last two digits, and by the first two, whether a pair of surrogates begins.
 use mathlib.Core.Logic.{⊎-elim}
-use borrow.Author.Tests.{le-leb, lt-leb}
-use Rattle.chars.specs.Characters.{restAt}
+use native.Mathlib.Omega.{arith}
 use borrow.Author.Needs.{needs}
+use Rattle.chars.proofs.characters.Escapes.{rest-bad, rest-high, rest-char}
 use Rattle.chars.proofs.characters.rest.Statement.{statement}
 use Rattle.chars.proofs.characters.rest.Tie as tie
 
-returns : tie.Need-returns
-unfolding restAt
-returns c = rw (← c .before .before .before .before .hex-pair .ensures, c .before .before .place .given .1) (c .wrong .ensures)
-
-returns-2 : tie.Need-returns-2
-unfolding restAt
-returns-2 c = rw (← c .before .before .before .before .before .before .hex-pair .ensures, c .before .before .before .before .l .given .1, le-leb _ _ (c .before .before .if1 .left), le-leb (c .before .before .before .before .before .before .before .before .args .first) 0xDB (omega arith)) (c .partner .ensures)
-
 returns-3 : tie.Need-returns-3
-unfolding restAt
-returns-3 c = ⊎-elim (λ w. rw (← c .before .before .before .before .hex-pair .ensures, c .before .before .l .given .1, lt-leb _ _ (w .taken)))
-    (λ w. rw (← c .before .before .before .before .hex-pair .ensures, c .before .before .l .given .1, le-leb _ _ (w .0 .left), lt-leb _ _ (w .1 .left))) (c .if1 .came)
+returns-3 c = rest-char _ _ _ (search needs) (c .before .before .l .given .1)
+    (⊎-elim (λ w l. omega arith) (λ w l. omega arith) (c .if1 .came))
 
 pub rest-spec : {M : Type 1} → statement M
 rest-spec = tie.close (tie.spec
@@ -32,6 +23,6 @@ rest-spec = tie.close (tie.spec
     (λ c. search needs)  -- add-partner
     (λ c κs. search needs)  -- partner-requires
     (λ c. search needs)  -- add-t16
-    returns
-    returns-2
+    (λ c. rest-bad _ _ _ (search needs) (c .before .before .place .given .1) (c .wrong .ensures))  -- returns
+    (λ c. rest-high _ _ _ (search needs) (c .before .before .before .before .l .given .1) (omega arith) (omega arith) (c .partner .ensures))  -- returns-2
     returns-3)

@@ -1,3 +1,4 @@
+-- `chars::characters::stop` meets its contract: the two ways of its test.
 use borrow.Author.Tests.{lt-ltb, le-ltb}
 use Rattle.chars.specs.Characters.{stopAt}
 use Rattle.chars.proofs.characters.stop.Statement.{statement}

@@ -1,21 +1,27 @@
-use borrow.Author.Tests.{le-leb, lt-leb}
-use Rattle.chars.proofs.bytes.Laws.{lowest-least}
-use Rattle.chars.specs.Characters.{threeAt}
+-- `chars::characters::three` meets its contract: by the bits of the second and the third byte.
+use mathlib.Core.Path.{_≡_}
+use Prim.Native.Nat.{_+_}
 use borrow.Author.Needs.{needs}
+use Rattle.chars.specs.Bytes.{byteAt, lowest, highest, sixBits}
+use Rattle.chars.proofs.bytes.Laws.{lowest-least}
+use Rattle.chars.proofs.characters.Utf8.{three-begins, second-stopped, third-stopped, three-read}
 use Rattle.chars.proofs.characters.three.Statement.{statement}
 use Rattle.chars.proofs.characters.three.Tie as tie
 
-returns : tie.Need-returns
-unfolding threeAt
-returns c = rw (← c .before .before .before .before .lowest .ensures, ← c .before .before .before .highest .ensures, ← c .before .before .six-at .ensures, lt-leb _ _ (c .before .if1 .taken)) (c .stop .ensures)
+-- the bits of the second byte, whose bounds go by the first
+second : (c : tie.After-six-at) → let a = c .before .before .before .before .args in
+    c .six-at .result ≡ sixBits (byteAt (a .text .now) (a .at + 1)) (lowest (a .b)) (highest (a .b))
+second c = cc
 
 returns-2 : tie.Need-returns-2
-unfolding threeAt
-returns-2 c = rw (← c .before .before .before .before .before .before .lowest .ensures, ← c .before .before .before .before .before .highest .ensures, ← c .before .before .before .before .six-at .ensures, le-leb _ _ (c .before .before .before .if1 .left), ← c .before .before .six-at2 .ensures, lt-leb _ _ (c .before .if2 .taken)) (c .stop2 .ensures)
+returns-2 c = let d = c .before .before .before in
+    third-stopped (three-begins _ _ _) (second (d .before)) (d .if1 .left) (c .before .before .six-at2 .ensures) (c .before .if2 .taken) (c .stop2 .ensures)
 
 returns-3 : tie.Need-returns-3
-unfolding threeAt
-returns-3 c = rw (← c .before .before .before .before .before .before .lowest .ensures, ← c .before .before .before .before .before .highest .ensures, ← c .before .before .before .before .six-at .ensures, le-leb _ _ (c .before .before .before .if1 .left), ← c .before .before .six-at2 .ensures, le-leb _ _ (c .before .if2 .left), c .wide .ensures)
+returns-3 c =
+    let d = c .before .before in
+    let e = d .before in
+    three-read (record { second = second (e .before); fits = e .if1 .left; third = d .six-at2 .ensures; small = c .before .if2 .left }) (c .wide .ensures)
 
 pub three-spec : {M : Type 1} → statement M
 three-spec = tie.close (tie.spec
@@ -25,7 +31,7 @@ three-spec = tie.close (tie.spec
     (λ c κs. rw (c .before .lowest .ensures) (lowest-least _))  -- six-at-requires
     (λ c. search needs)  -- add-stop
     (λ c κs. search needs)  -- stop-requires
-    returns
+    (λ c. second-stopped (three-begins _ _ _) (second (c .before .before)) (c .before .if1 .taken) (c .stop .ensures))  -- returns
     (λ c. search needs)  -- add-six-at-2
     (λ c κs. search needs)  -- six-at-requires-2
     (λ c. search needs)  -- add-stop-2

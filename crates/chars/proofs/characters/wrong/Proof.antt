@@ -1,3 +1,4 @@
+-- `chars::characters::wrong` meets its contract: the byte that is read decides the code.
 use Rattle.chars.specs.Characters.{wrongAt}
 use borrow.Author.Needs.{needs}
 use Rattle.chars.proofs.characters.wrong.Statement.{statement}

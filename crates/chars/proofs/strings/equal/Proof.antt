@@ -29,17 +29,26 @@ right c = now (c .args .b)
 abbrev SameAt : tie.Start Inv-loop μ-loop → ℕ → Type 0
 SameAt c k = getD (left c) k 0 ≡ getD (right c) k 0
 
+-- the turn of the loop in which two bytes are compared
+abbrev turn : tie.After-shared-slice-known2 Inv-loop μ-loop → tie.At-loop Inv-loop μ-loop
+turn c = c .before .before .before
+
+abbrev start : tie.At-loop Inv-loop μ-loop → tie.Start Inv-loop μ-loop
+start l = l .before .before
+
 returns-2 : tie.Need-returns-2 Inv-loop μ-loop
 returns-2 c =
-    let l = c .before .before .before .before in
-    let d = l .before .before in
+    let l = turn (c .before) in
+    let d = start l in
     sym (other-of (left d) (right d) (λ e. c .if2 .taken (ap (λ (s : List ℕ). getD s (l .loop .i) 0) e)))
 
 loop-again : tie.Need-loop-again Inv-loop μ-loop
-loop-again c = (search needs, below-more (SameAt (c .before .before .before .before .before .before)) _ (c .before .before .before .before .loop .inv .1) (c .if2 .left))
+loop-again c = let l = turn (c .before) in (search needs, below-more (SameAt (start l)) _ (l .loop .inv .1) (c .if2 .left))
 
 returns-3 : tie.Need-returns-3 Inv-loop μ-loop
-returns-3 c = let d = c .before .before .before in sym (same-of (left d) (right d) (ext-getD 0 (left d) (right d) (omega arith) (λ k l. c .before .loop .inv .1 k (omega arith))))
+returns-3 c =
+    let d = start (c .before) in
+    sym (same-of (left d) (right d) (ext-getD 0 (left d) (right d) (omega arith) (λ k l. c .before .loop .inv .1 k (omega arith))))
 
 pub equal-spec : {M : Type 1} → statement M
 equal-spec = tie.close (tie.spec Inv-loop μ-loop

@@ -6,11 +6,11 @@ use Rattle.chars.proofs.plain.Laws.{plain-apart}
 use Rattle.chars.proofs.strings.same_name.Statement.{statement}
 use Rattle.chars.proofs.strings.same_name.Tie as tie
 
+-- two different plain bytes
 returns : tie.Need-returns
-returns c =
-    let d = c .before .before .before .before in
+returns c = let p = c .before .before .before in let d = p .before in
     sym (plain-apart _ _ (d .before .before .peek .ensures) (d .before .peek2 .ensures) (d .if1 .taken)
-    (sym (c .before .before .before .is-plain .ensures) ∙ c .before .before .if2 .taken) (sym (c .before .is-plain2 .ensures) ∙ c .if3 .taken))
+    (sym (p .is-plain .ensures) ∙ c .before .before .if2 .taken) (sym (c .before .is-plain2 .ensures) ∙ c .if3 .taken))
 
 pub same-name-spec : {M : Type 1} → statement M
 same-name-spec = tie.close (tie.spec

@@ -15,7 +15,8 @@ abbrev μ-loop : tie.MeasureT-loop
 μ-loop text at i₀ i = length text - i
 
 loop-again : tie.Need-loop-again Inv-loop μ-loop
-loop-again c = (omega (arith, wide-ahead _ _ _ (c .before .wide-end .ensures) (c .if1 .left), c .before .before .before .loop .inv .0), wide-string _ _ _ (c .before .wide-end .ensures) ∙ c .before .before .before .loop .inv .1)
+loop-again c = let w = c .before in
+    (omega (arith, wide-ahead _ _ _ (w .wide-end .ensures) (c .if1 .left)), wide-string _ _ _ (w .wide-end .ensures) ∙ w .before .before .loop .inv .1)
 
 pub wides-spec : {M : Type 1} → statement M
 wides-spec = tie.close (tie.spec Inv-loop μ-loop

@@ -1,32 +1,23 @@
--- The walk over two definitions meets its contracts. The measure is three times the rows of the old definition, with up to three more by the order of the calls;
--- fields that are absent, at row 0, count none. The loops' invariants are `InFields` and `InWide`; `Carries` has a law for each way out. Below each member's name stands what is known at its places.
-use Prim.Native.Nat.{ℕ, _+_, _-_, _*_, _≤_, _<_}
-use mathlib.Core.Path.{_≡_, refl}
-use mathlib.Core.Bool.{true}
+-- The walk over two definitions meets its contracts. The measure is three times the rows of the old definition, with up to three more by the order
+-- of the calls; fields that are absent, at row 0, count none. The loops' invariants are `InFields` and `InWide` of carrying/Fields.antt.
+use Prim.Native.Nat.{ℕ, _+_, _-_, _*_, _<_}
+use mathlib.Core.Path.{refl}
+use mathlib.Core.List.{List}
 use native.Mathlib.Omega.{arith}
 use borrow.Author.Needs.{needs}
 use borrow.Author.Tests.{not-true, not-false}
-use lib.ListN.{length}
-use mir.Syntax.{w64}
-use mir.Val.{Fits}
-use Rattle.model.specs.Text.{text}
 use Rattle.syntax.specs.Holding.{word}
-use Rattle.rows.specs.Records.{ObjectRow}
-use Rattle.rows.specs.Finding.{Finds}
-use Rattle.definitions.specs.Shapes.{DefinedRow, OfObjectsRow}
-use Rattle.comparison.specs.Carrying.{Pairing, PairingTo, FieldPairing}
-use Rattle.definitions.specs.declared.types.Generic.{Generic}
 use Rattle.definitions.specs.declared.types.Generic.the-variants.{Array, Map, Object, Other}
-use Rattle.definitions.proofs.Facts.{spelled, partRows, part-rows}
-use Rattle.rows.proofs.Facts.{in-table, as-row, part-object, quotes-read}
+use Rattle.definitions.proofs.Facts.{partRows, fields-in, find-required, find-optional}
+use Rattle.rows.proofs.Facts.{in-table, part-object, quotes-read}
 use Rattle.comparison.proofs.carrying.TypeNames.{by-name}
-use Rattle.comparison.proofs.carrying.Shapes.{array-less, array-pair, array-array, array-other, map-less, map-old, map-pair, map-map}
-use Rattle.comparison.proofs.carrying.Shapes.{map-object, map-other, object-row, object-other, object-less, required-pair}
-use Rattle.comparison.proofs.carrying.Shapes.{optional-pair, object-fails, object-ends}
-use Rattle.comparison.proofs.carrying.Fields.{InFields, fields-none, fields-start, fields-end, field-less, field-pair, field-fails}
-use Rattle.comparison.proofs.carrying.Fields.{field-next, InWide, wide-start, wide-end, wide-some, wide-found, wide-next, found-pair}
-use Rattle.comparison.proofs.carrying.Fields.{field-carried, field-missing, field-json}
-use borrow.Fn.Kinds.{In}
+use Rattle.comparison.proofs.carrying.Shapes.{pairing-to, array-less, array-pair, array-in, array-array, array-other, map-less, map-old}
+use Rattle.comparison.proofs.carrying.Shapes.{map-pair, map-in, map-map, map-object, map-other, object-row, object-in, object-other}
+use Rattle.comparison.proofs.carrying.Shapes.{object-less, required-pair, optional-pair, object-fails, object-ends}
+use Rattle.comparison.proofs.carrying.Fields.{InFields, failing-absent, failing-start, failing-end, field-less, field-pair, field-fails}
+use Rattle.comparison.proofs.carrying.Fields.{field-next, InWide, wide-start, wide-end, wide-some, wide-found, wide-next}
+use Rattle.comparison.proofs.carrying.Fields.{found-pair, field-carried, field-missing, field-json}
+use borrow.Fn.Kinds.{In, PK}
 use borrow.Fn.PlainCycle.{Measures, is, falls, and}
 use Rattle.comparison.proofs.carrying.carried.Reads as carried
 use Rattle.comparison.proofs.carrying.carried.Kinds as carried-kinds
@@ -52,18 +43,21 @@ use Rattle.comparison.proofs.carrying.+carried+carried_field+carried_fo
 use Rattle.comparison.proofs.carrying.failing_wide.Reads as failing-wide
 use Rattle.comparison.proofs.carrying.failing_wide.Kinds as failing-wide-kinds
 use Rattle.comparison.proofs.carrying.+carried+carried_field+carried_found+carried_to_array+carried_to_map+carried_to_object+failing_field+failing_wide.Lts-failing_wide as failing-wide-lts
-use Rattle.comparison.proofs.carrying.carried_name.Reads as carried-name-reads
-use Rattle.comparison.proofs.fields.find_under.Reads as find-under-reads
-use Rattle.definitions.proofs.generic_at.Reads as generic-at-reads
-use Rattle.comparison.proofs.carrying.is_json.Reads as is-json-reads
-use Rattle.comparison.proofs.fields.match_under.Reads as match-under-reads
-use Rattle.definitions.proofs.of_objects.Reads as of-objects-reads
-use Rattle.definitions.proofs.type_at.Reads as type-at-reads
-use Rattle.comparison.proofs.fields.wide_under.Reads as wide-under-reads
-use Rattle.rows.proofs.find.Reads as find-reads
-use Rattle.rows.proofs.row_at.Reads as row-at-reads
+use Rattle.comparison.proofs.carrying.carried_name.Reads as carried-name
+use Rattle.comparison.proofs.carrying.is_json.Reads as is-json
+use Rattle.comparison.proofs.fields.find_under.Reads as find-under
+use Rattle.comparison.proofs.fields.match_under.Reads as match-under
+use Rattle.comparison.proofs.fields.wide_under.Reads as wide-under
+use Rattle.definitions.proofs.generic_at.Reads as generic-at
+use Rattle.definitions.proofs.of_objects.Reads as of-objects
+use Rattle.definitions.proofs.type_at.Reads as type-at
+use Rattle.rows.proofs.between.Reads as between
+use Rattle.rows.proofs.find.Reads as find
+use Rattle.rows.proofs.row_at.Reads as row-at
 use Rattle.comparison.proofs.carrying.+carried+carried_field+carried_found+carried_to_array+carried_to_map+carried_to_object+failing_field+failing_wide.{statement}
 use Rattle.comparison.proofs.carrying.+carried+carried_field+carried_found+carried_to_array+carried_to_map+carried_to_object+failing_field+failing_wide.Tie.{close}
+
+-- ---- the measures, and the calls of a measure or below it
 
 abbrev μ-carried : Measures 4 carried-kinds.ps ℕ
 μ-carried κs a = 3 * word (a .1 .1 .1 .0 .now) (a .1 .1 .1 .1 .1 .0) 4 + 1
@@ -89,586 +83,401 @@ abbrev μ-failing-field : Measures 4 failing-field-kinds.ps ℕ
 abbrev μ-failing-wide : Measures 4 failing-wide-kinds.ps ℕ
 μ-failing-wide κs a = 3 * partRows (a .1 .1 .1 .0 .now) (a .1 .1 .1 .1 .1 .0)
 
+module _ (ps : List (PK 4)) (μ : Measures 4 ps ℕ) (Pre : In 4 ps) (t : ℕ) where
+  abbrev at : In 4 ps
+  at = and 4 ps (is 4 ps μ t) Pre
+
+  abbrev below : In 4 ps
+  below = and 4 ps (falls 4 ps _<_ μ t) Pre
+
 abbrev carried-at : ℕ → In 4 carried-kinds.ps
-carried-at t = and 4 carried-kinds.ps (is 4 carried-kinds.ps μ-carried t) carried.Pre
+carried-at = at carried-kinds.ps μ-carried carried.Pre
 
 abbrev carried-below : ℕ → In 4 carried-kinds.ps
-carried-below t = and 4 carried-kinds.ps (falls 4 carried-kinds.ps _<_ μ-carried t) carried.Pre
+carried-below = below carried-kinds.ps μ-carried carried.Pre
 
 abbrev carried-field-at : ℕ → In 4 carried-field-kinds.ps
-carried-field-at t = and 4 carried-field-kinds.ps (is 4 carried-field-kinds.ps μ-carried-field t) carried-field.Pre
-
-abbrev carried-field-below : ℕ → In 4 carried-field-kinds.ps
-carried-field-below t = and 4 carried-field-kinds.ps (falls 4 carried-field-kinds.ps _<_ μ-carried-field t) carried-field.Pre
+carried-field-at = at carried-field-kinds.ps μ-carried-field carried-field.Pre
 
 abbrev carried-found-at : ℕ → In 4 carried-found-kinds.ps
-carried-found-at t = and 4 carried-found-kinds.ps (is 4 carried-found-kinds.ps μ-carried-found t) carried-found.Pre
+carried-found-at = at carried-found-kinds.ps μ-carried-found carried-found.Pre
 
 abbrev carried-found-below : ℕ → In 4 carried-found-kinds.ps
-carried-found-below t = and 4 carried-found-kinds.ps (falls 4 carried-found-kinds.ps _<_ μ-carried-found t) carried-found.Pre
+carried-found-below = below carried-found-kinds.ps μ-carried-found carried-found.Pre
 
 abbrev carried-to-array-at : ℕ → In 4 carried-to-array-kinds.ps
-carried-to-array-at t = and 4 carried-to-array-kinds.ps (is 4 carried-to-array-kinds.ps μ-carried-to-array t) carried-to-array.Pre
-
-abbrev carried-to-array-below : ℕ → In 4 carried-to-array-kinds.ps
-carried-to-array-below t = and 4 carried-to-array-kinds.ps (falls 4 carried-to-array-kinds.ps _<_ μ-carried-to-array t) carried-to-array.Pre
+carried-to-array-at = at carried-to-array-kinds.ps μ-carried-to-array carried-to-array.Pre
 
 abbrev carried-to-map-at : ℕ → In 4 carried-to-map-kinds.ps
-carried-to-map-at t = and 4 carried-to-map-kinds.ps (is 4 carried-to-map-kinds.ps μ-carried-to-map t) carried-to-map.Pre
-
-abbrev carried-to-map-below : ℕ → In 4 carried-to-map-kinds.ps
-carried-to-map-below t = and 4 carried-to-map-kinds.ps (falls 4 carried-to-map-kinds.ps _<_ μ-carried-to-map t) carried-to-map.Pre
+carried-to-map-at = at carried-to-map-kinds.ps μ-carried-to-map carried-to-map.Pre
 
 abbrev carried-to-object-at : ℕ → In 4 carried-to-object-kinds.ps
-carried-to-object-at t = and 4 carried-to-object-kinds.ps (is 4 carried-to-object-kinds.ps μ-carried-to-object t) carried-to-object.Pre
-
-abbrev carried-to-object-below : ℕ → In 4 carried-to-object-kinds.ps
-carried-to-object-below t = and 4 carried-to-object-kinds.ps (falls 4 carried-to-object-kinds.ps _<_ μ-carried-to-object t) carried-to-object.Pre
+carried-to-object-at = at carried-to-object-kinds.ps μ-carried-to-object carried-to-object.Pre
 
 abbrev failing-field-at : ℕ → In 4 failing-field-kinds.ps
-failing-field-at t = and 4 failing-field-kinds.ps (is 4 failing-field-kinds.ps μ-failing-field t) failing-field.Pre
+failing-field-at = at failing-field-kinds.ps μ-failing-field failing-field.Pre
 
 abbrev failing-field-below : ℕ → In 4 failing-field-kinds.ps
-failing-field-below t = and 4 failing-field-kinds.ps (falls 4 failing-field-kinds.ps _<_ μ-failing-field t) failing-field.Pre
+failing-field-below = below failing-field-kinds.ps μ-failing-field failing-field.Pre
 
 abbrev failing-wide-at : ℕ → In 4 failing-wide-kinds.ps
-failing-wide-at t = and 4 failing-wide-kinds.ps (is 4 failing-wide-kinds.ps μ-failing-wide t) failing-wide.Pre
-
-abbrev failing-wide-below : ℕ → In 4 failing-wide-kinds.ps
-failing-wide-below t = and 4 failing-wide-kinds.ps (falls 4 failing-wide-kinds.ps _<_ μ-failing-wide t) failing-wide.Pre
+failing-wide-at = at failing-wide-kinds.ps μ-failing-wide failing-wide.Pre
 
 -- ---- carried
 
 abbrev carried-claims : ℕ → carried-lts.Claims
 carried-claims t = (
-  generic-at-reads.Asked,
-  generic-at-reads.Learnt,
-  carried-to-array-below t,
+  generic-at.Asked,
+  generic-at.Learnt,
+  below carried-to-array-kinds.ps μ-carried-to-array carried-to-array.Pre t,
   carried-to-array.Post,
-  carried-to-map-below t,
+  below carried-to-map-kinds.ps μ-carried-to-map carried-to-map.Pre t,
   carried-to-map.Post,
-  carried-to-object-below t,
+  below carried-to-object-kinds.ps μ-carried-to-object carried-to-object.Pre t,
   carried-to-object.Post,
-  type-at-reads.Asked,
-  type-at-reads.Learnt,
-  carried-name-reads.Asked,
-  carried-name-reads.Learnt,
+  type-at.Asked,
+  type-at.Learnt,
+  carried-name.Asked,
+  carried-name.Learnt,
 )
 
-module _ (t : ℕ) where
+module _ {k : carried-lts.Claims} {P : In 4 carried-kinds.ps} where
   -- the entry, from where the old definition's generic type was read
-  abbrev carried-entry : carried-lts.After-generic-at (carried-claims t) (carried-at t) carried.Post
-      → carried-lts.Start (carried-claims t) (carried-at t) carried.Post
+  abbrev carried-entry : carried-lts.After-generic-at k P carried.Post → carried-lts.Start k P carried.Post
   carried-entry c = c .before .before .before .before .before
 
-  -- the old definition is of that type
-  carried-to : (c : carried-lts.After-generic-at (carried-claims t) (carried-at t) carried.Post) (g : Generic) → c .generic-at .result ≡ g →
-      let a = carried-entry c .args in
-      PairingTo (a .new .now) (a .old .now) (a .rows1 .now) (a .rows2 .now) (a .a) (a .b) g
-  carried-to c g e = record { given = carried-entry c .pre .1; is = rw e at (c .generic-at .ensures) }
-
-  carried-less : (c : carried-lts.After-generic-at (carried-claims t) (carried-at t) carried.Post) →
-      let a = carried-entry c .args in
-      3 * word (a .rows2 .now) (a .b) 4 < t
-  carried-less c = omega (arith, carried-entry c .pre .0)
-
-  carried-carried-to-object-requires : carried-lts.Need-carried-to-object-requires (carried-claims t) (carried-at t) carried.Post
-  carried-carried-to-object-requires c κs = let r = c .before .before in (carried-less r, carried-to r Object (c .enum-told3 .given .1))
-
-  carried-returns-4 : carried-lts.Need-returns-4 (carried-claims t) (carried-at t) carried.Post
-  carried-returns-4 c =
-      let k = c .before .before .before in
-      by-name (carried-to (k .before .before) Other (k .enum-told4 .given .1) .is) (c .before .before .type-at .ensures) (c .before .type-at2 .ensures) (c .carried-name .ensures)
+carried-met : {M : Type 1} (t : ℕ) → carried-lts.Closed (carried-claims t) (carried-at t) carried.Post M
+carried-met t = carried-lts.spec (carried-claims t) (carried-at t) carried.Post
+    (λ c κs. search needs)  -- generic-at-requires
+    (λ c. search needs)  -- enum-told
+    -- carried-to-array-requires
+    (λ c κs. let r = c .before .before in (omega arith, pairing-to (carried-entry r .pre .1) (r .generic-at .ensures) (c .enum-told .given .1)))
+    (λ c. search needs)  -- enum-told-2
+    -- carried-to-map-requires
+    (λ c κs. let r = c .before .before in (omega arith, pairing-to (carried-entry r .pre .1) (r .generic-at .ensures) (c .enum-told2 .given .1)))
+    (λ c. search needs)  -- enum-told-3
+    -- carried-to-object-requires
+    (λ c κs. let r = c .before .before in (omega arith, pairing-to (carried-entry r .pre .1) (r .generic-at .ensures) (c .enum-told3 .given .1)))
+    (λ c. search needs)  -- enum-told-4
+    (λ c κs. search needs)  -- type-at-requires
+    (λ c κs. search needs)  -- type-at-requires-2
+    (λ c κs. tt)  -- carried-name-requires
+    (λ c. c .carried-to-array .ensures)  -- returns
+    (λ c. c .carried-to-map .ensures)  -- returns-2
+    (λ c. c .carried-to-object .ensures)  -- returns-3
+    -- returns-4
+    (λ c.
+    let k = c .before .before .before in
+    by-name (k .before .before .generic-at .ensures) (k .enum-told4 .given .1)
+    (c .before .before .type-at .ensures) (c .before .type-at2 .ensures) (c .carried-name .ensures))
 
 -- ---- carried_field
 
 abbrev carried-field-claims : ℕ → carried-field-lts.Claims
 carried-field-claims t = (
-  row-at-reads.Asked,
-  row-at-reads.Learnt,
-  find-under-reads.Asked,
-  find-under-reads.Learnt,
+  row-at.Asked,
+  row-at.Learnt,
+  between.Asked,
+  between.Learnt,
+  find-under.Asked,
+  find-under.Learnt,
   carried-found-below t,
   carried-found.Post,
 )
 
-module _ (t : ℕ) where
-  -- the entry, from where the name was read, and its quotes
-  abbrev field-entry : carried-field-lts.After-row-at (carried-field-claims t) (carried-field-at t) carried-field.Post
-      → carried-field-lts.Start (carried-field-claims t) (carried-field-at t) carried-field.Post
+module _ {k : carried-field-lts.Claims} {P : In 4 carried-field-kinds.ps} where
+  -- the entry, from where the name was read
+  abbrev field-entry : carried-field-lts.After-row-at k P carried-field.Post → carried-field-lts.Start k P carried-field.Post
   field-entry c = c .before .before .before .before .before
 
-  field-quotes : (c : carried-field-lts.After-row-at (carried-field-claims t) (carried-field-at t) carried-field.Post) →
-      let x = c .row-at .result in
-      (x .first + 2 ≤ x .end) × (x .end ≤ length (field-entry c .args .old .now))
-  field-quotes c = quotes-read (c .row-at .ensures) (field-entry c .pre .1 .quoted)
-
-  carried-field-carried-found-requires : carried-field-lts.Need-carried-found-requires (carried-field-claims t) (carried-field-at t) carried-field.Post
-  carried-field-carried-found-requires c κs =
-      let s = field-entry (c .before .before .before .before) in
-      let r = c .before .before .before .before .row-at .ensures in
-      (omega (arith, s .pre .0), (s .pre .1, rw (r .first, r .last) at (c .find-under .ensures)))
+carried-field-met : {M : Type 1} (t : ℕ) → carried-field-lts.Closed (carried-field-claims t) (carried-field-at t) carried-field.Post M
+carried-field-met t = carried-field-lts.spec (carried-field-claims t) (carried-field-at t) carried-field.Post
+    (λ c κs. search needs)  -- row-at-requires
+    (λ c κs. quotes-read (c .row-at .ensures) (field-entry c .pre .1 .quoted))  -- between-requires
+    (λ c κs. search needs)  -- find-under-requires
+    -- carried-found-requires
+    (λ c κs.
+    let r = c .before .before in
+    let x = r .row-at .ensures in
+    (omega arith, (field-entry r .pre .1, rw (c .before .between .ensures, x .first, x .last) at (c .find-under .ensures))))
+    (λ c. c .carried-found .ensures)  -- returns
 
 -- ---- carried_found
 
 abbrev carried-found-claims : ℕ → carried-found-lts.Claims
-carried-found-claims t = (
-  carried-below t,
-  carried.Post,
-  is-json-reads.Asked,
-  is-json-reads.Learnt,
-)
+carried-found-claims t = (carried-below t, carried.Post, is-json.Asked, is-json.Learnt)
 
-module _ (t : ℕ) where
-  carried-found-add-carried : carried-found-lts.Need-add-carried (carried-found-claims t) (carried-found-at t) carried-found.Post
-  carried-found-add-carried c = let s = c .before .before .before .before .before in omega (arith, in-table (s .pre .1 .0 .old .row) .here, s .good)
+module _ {k : carried-found-lts.Claims} {P : In 4 carried-found-kinds.ps} where
+  -- the entry, from before the first test
+  abbrev found-entry : carried-found-lts.After-shared-slice-known4 k P carried-found.Post → carried-found-lts.Start k P carried-found.Post
+  found-entry c = c .before .before .before .before
 
-  carried-found-carried-requires : carried-found-lts.Need-carried-requires (carried-found-claims t) (carried-found-at t) carried-found.Post
-  carried-found-carried-requires c κs = let s = c .before .before .before .before .before in (omega (arith, s .pre .0), found-pair (s .pre .1 .1) (c .if1 .taken) (s .pre .1 .0))
-
-  carried-found-returns : carried-found-lts.Need-returns (carried-found-claims t) (carried-found-at t) carried-found.Post
-  carried-found-returns c = field-carried (c .before .before .before .before .before .before .pre .1 .1) (c .before .if1 .taken) (c .carried .ensures)
-
-  carried-found-returns-2 : carried-found-lts.Need-returns-2 (carried-found-claims t) (carried-found-at t) carried-found.Post
-  carried-found-returns-2 c = field-missing (c .before .before .before .before .before .before .pre .1 .1) (c .before .if1 .left) (c .if2 .taken)
-
-  carried-found-add-is-json : carried-found-lts.Need-add-is-json (carried-found-claims t) (carried-found-at t) carried-found.Post
-  carried-found-add-is-json c = let s = c .before .before .before .before .before .before in omega (arith, in-table (s .pre .1 .0 .old .row) .here, s .good)
-
-  carried-found-returns-3 : carried-found-lts.Need-returns-3 (carried-found-claims t) (carried-found-at t) carried-found.Post
-  carried-found-returns-3 c = field-json (c .before .before .before .before .before .before .before .pre .1 .1) (c .before .before .if1 .left) (c .before .if2 .left) (c .is-json .ensures)
+carried-found-met : {M : Type 1} (t : ℕ) → carried-found-lts.Closed (carried-found-claims t) (carried-found-at t) carried-found.Post M
+carried-found-met t = carried-found-lts.spec (carried-found-claims t) (carried-found-at t) carried-found.Post
+    (λ c. omega (arith, in-table (found-entry (c .before) .pre .1 .0 .old .row) .here))  -- add-carried
+    (λ c κs. let p = found-entry (c .before) .pre .1 in (omega arith, found-pair (p .1) (c .if1 .taken) (p .0)))  -- carried-requires
+    (λ c. field-carried (found-entry (c .before .before) .pre .1 .1) (c .before .if1 .taken) (c .carried .ensures))  -- returns
+    (λ c. field-missing (found-entry (c .before .before) .pre .1 .1) (c .before .if1 .left) (c .if2 .taken))  -- returns-2
+    (λ c. omega (arith, in-table (found-entry (c .before .before) .pre .1 .0 .old .row) .here))  -- add-is-json
+    (λ c κs. found-entry (c .before .before) .pre .1 .0 .old)  -- is-json-requires
+    -- returns-3
+    (λ c.
+    let f = found-entry (c .before .before .before) .pre .1 .1 in
+    field-json f (c .before .before .if1 .left) (c .before .if2 .left) (c .is-json .ensures))
 
 -- ---- carried_to_array
 
 abbrev carried-to-array-claims : ℕ → carried-to-array-lts.Claims
-carried-to-array-claims t = (generic-at-reads.Asked, generic-at-reads.Learnt, carried-below t, carried.Post)
+carried-to-array-claims t = (generic-at.Asked, generic-at.Learnt, carried-below t, carried.Post)
 
-module _ (t : ℕ) where
+module _ {k : carried-to-array-lts.Claims} {P : In 4 carried-to-array-kinds.ps} where
   -- the entry, from where the new definition's generic type was read
-  abbrev array-entry : carried-to-array-lts.After-generic-at (carried-to-array-claims t) (carried-to-array-at t) carried-to-array.Post
-      → carried-to-array-lts.Start (carried-to-array-claims t) (carried-to-array-at t) carried-to-array.Post
+  abbrev array-entry : carried-to-array-lts.After-generic-at k P carried-to-array.Post → carried-to-array-lts.Start k P carried-to-array.Post
   array-entry c = c .before .before .before .before .before
 
-  -- an Array to an Array: the definitions inside
-  array-inside : (c : carried-to-array-lts.After-generic-at (carried-to-array-claims t) (carried-to-array-at t) carried-to-array.Post) → c .generic-at .result ≡ Array →
-      let a = array-entry c .args in
-      Pairing (a .new .now) (a .old .now) (a .rows1 .now) (a .rows2 .now) (a .a + 2) (a .b + 2)
-  array-inside c e = let i = array-entry c .pre .1 in array-pair (c .generic-at .ensures) i e (i .given)
-
-  array-falls : (c : carried-to-array-lts.After-generic-at (carried-to-array-claims t) (carried-to-array-at t) carried-to-array.Post) →
-      let a = array-entry c .args in
-      3 * word (a .rows2 .now) (a .b + 2) 4 + 1 < t
-  array-falls c = omega (arith, array-less (c .generic-at .ensures) (array-entry c .pre .1), array-entry c .pre .0)
-
-  carried-to-array-add-carried : carried-to-array-lts.Need-add-carried (carried-to-array-claims t) (carried-to-array-at t) carried-to-array.Post
-  carried-to-array-add-carried c =
-      let r = c .before .before in
-      omega (arith, in-table (array-inside r (c .enum-told .given .1) .new .row) .here, array-entry r .good)
-
-  carried-to-array-add-carried-2 : carried-to-array-lts.Need-add-carried-2 (carried-to-array-claims t) (carried-to-array-at t) carried-to-array.Post
-  carried-to-array-add-carried-2 c =
-      let r = c .before .before in
-      omega (arith, in-table (array-inside r (c .enum-told .given .1) .old .row) .here, array-entry r .good)
-
-  carried-to-array-returns : carried-to-array-lts.Need-returns (carried-to-array-claims t) (carried-to-array-at t) carried-to-array.Post
-  carried-to-array-returns c =
-      let r = c .before .before .before in
-      array-array (r .generic-at .ensures) (array-entry r .pre .1) (c .before .enum-told .given .1) (c .carried .ensures)
-
-  carried-to-array-returns-2 : carried-to-array-lts.Need-returns-2 (carried-to-array-claims t) (carried-to-array-at t) carried-to-array.Post
-  carried-to-array-returns-2 c =
-      let r = c .before .before in
-      array-other (r .generic-at .ensures) (array-entry r .pre .1) Map (c .enum-told2 .given .1) refl
-
-  carried-to-array-returns-3 : carried-to-array-lts.Need-returns-3 (carried-to-array-claims t) (carried-to-array-at t) carried-to-array.Post
-  carried-to-array-returns-3 c =
-      let r = c .before .before in
-      array-other (r .generic-at .ensures) (array-entry r .pre .1) Object (c .enum-told3 .given .1) refl
-
-  carried-to-array-returns-4 : carried-to-array-lts.Need-returns-4 (carried-to-array-claims t) (carried-to-array-at t) carried-to-array.Post
-  carried-to-array-returns-4 c =
-      let r = c .before .before in
-      array-other (r .generic-at .ensures) (array-entry r .pre .1) Other (c .enum-told4 .given .1) refl
+carried-to-array-met : {M : Type 1} (t : ℕ) → carried-to-array-lts.Closed (carried-to-array-claims t) (carried-to-array-at t) carried-to-array.Post M
+carried-to-array-met t = carried-to-array-lts.spec (carried-to-array-claims t) (carried-to-array-at t) carried-to-array.Post
+    (λ c κs. search needs)  -- generic-at-requires
+    (λ c. search needs)  -- enum-told
+    -- add-carried
+    (λ c. let r = c .before .before in omega (arith, array-in (r .generic-at .ensures) (array-entry r .pre .1) (c .enum-told .given .1) .0))
+    -- add-carried-2
+    (λ c. let r = c .before .before in omega (arith, array-in (r .generic-at .ensures) (array-entry r .pre .1) (c .enum-told .given .1) .1))
+    -- carried-requires
+    (λ c κs.
+    let r = c .before .before in
+    let h = r .generic-at .ensures in
+    let i = array-entry r .pre .1 in
+    (omega (arith, array-less h i), array-pair h i (c .enum-told .given .1) (i .given)))
+    (λ c. search needs)  -- enum-told-2
+    (λ c. search needs)  -- enum-told-3
+    (λ c. search needs)  -- enum-told-4
+    -- returns
+    (λ c.
+    let r = c .before .before .before in
+    array-array (r .generic-at .ensures) (array-entry r .pre .1) (c .before .enum-told .given .1) (c .carried .ensures))
+    (λ c. let r = c .before .before in array-other (r .generic-at .ensures) (array-entry r .pre .1) Map (c .enum-told2 .given .1) refl)  -- returns-2
+    -- returns-3
+    (λ c. let r = c .before .before in array-other (r .generic-at .ensures) (array-entry r .pre .1) Object (c .enum-told3 .given .1) refl)
+    -- returns-4
+    (λ c. let r = c .before .before in array-other (r .generic-at .ensures) (array-entry r .pre .1) Other (c .enum-told4 .given .1) refl)
 
 -- ---- carried_to_map
 
 abbrev carried-to-map-claims : ℕ → carried-to-map-lts.Claims
-carried-to-map-claims t = (generic-at-reads.Asked, generic-at-reads.Learnt, carried-below t, carried.Post, is-json-reads.Asked, is-json-reads.Learnt)
+carried-to-map-claims t = (generic-at.Asked, generic-at.Learnt, carried-below t, carried.Post, is-json.Asked, is-json.Learnt)
 
-module _ (t : ℕ) where
+module _ {k : carried-to-map-lts.Claims} {P : In 4 carried-to-map-kinds.ps} where
   -- the entry, from where the new definition's generic type was read
-  abbrev map-entry : carried-to-map-lts.After-generic-at (carried-to-map-claims t) (carried-to-map-at t) carried-to-map.Post
-      → carried-to-map-lts.Start (carried-to-map-claims t) (carried-to-map-at t) carried-to-map.Post
+  abbrev map-entry : carried-to-map-lts.After-generic-at k P carried-to-map.Post → carried-to-map-lts.Start k P carried-to-map.Post
   map-entry c = c .before .before .before .before .before
 
-  -- a Map to a Map: the definitions inside
-  map-inside : (c : carried-to-map-lts.After-generic-at (carried-to-map-claims t) (carried-to-map-at t) carried-to-map.Post) → c .generic-at .result ≡ Map →
-      let a = map-entry c .args in
-      Pairing (a .new .now) (a .old .now) (a .rows1 .now) (a .rows2 .now) (a .a + 2) (a .b + 2)
-  map-inside c e = let i = map-entry c .pre .1 in map-pair (c .generic-at .ensures) i e (i .given)
-
-  map-falls : (c : carried-to-map-lts.After-generic-at (carried-to-map-claims t) (carried-to-map-at t) carried-to-map.Post) →
-      let a = map-entry c .args in
-      3 * word (a .rows2 .now) (a .b + 2) 4 + 1 < t
-  map-falls c = omega (arith, map-less (c .generic-at .ensures) (map-entry c .pre .1), map-entry c .pre .0)
-
-  -- the old definition inside
-  map-inner : (c : carried-to-map-lts.After-generic-at (carried-to-map-claims t) (carried-to-map-at t) carried-to-map.Post) →
-      let a = map-entry c .args in
-      DefinedRow (a .old .now) (a .rows2 .now) (a .b + 2)
-  map-inner c = let i = map-entry c .pre .1 in map-old (c .generic-at .ensures) i (i .given .old)
-
-  carried-to-map-add-carried : carried-to-map-lts.Need-add-carried (carried-to-map-claims t) (carried-to-map-at t) carried-to-map.Post
-  carried-to-map-add-carried c =
-      let r = c .before .before in
-      omega (arith, in-table (map-inside r (c .enum-told2 .given .1) .new .row) .here, map-entry r .good)
-
-  carried-to-map-add-carried-2 : carried-to-map-lts.Need-add-carried-2 (carried-to-map-claims t) (carried-to-map-at t) carried-to-map.Post
-  carried-to-map-add-carried-2 c =
-      let r = c .before .before in
-      omega (arith, in-table (map-inside r (c .enum-told2 .given .1) .old .row) .here, map-entry r .good)
-
-  carried-to-map-returns : carried-to-map-lts.Need-returns (carried-to-map-claims t) (carried-to-map-at t) carried-to-map.Post
-  carried-to-map-returns c =
-      let r = c .before .before in
-      map-other (r .generic-at .ensures) (map-entry r .pre .1) Array (c .enum-told .given .1) refl
-
-  carried-to-map-returns-2 : carried-to-map-lts.Need-returns-2 (carried-to-map-claims t) (carried-to-map-at t) carried-to-map.Post
-  carried-to-map-returns-2 c =
-      let r = c .before .before .before in
-      map-map (r .generic-at .ensures) (map-entry r .pre .1) (c .before .enum-told2 .given .1) (c .carried .ensures)
-
-  carried-to-map-returns-3 : carried-to-map-lts.Need-returns-3 (carried-to-map-claims t) (carried-to-map-at t) carried-to-map.Post
-  carried-to-map-returns-3 c =
-      let r = c .before .before .before in
-      map-object (r .generic-at .ensures) (map-entry r .pre .1) (c .before .enum-told3 .given .1) (c .is-json .ensures)
-
-  carried-to-map-returns-4 : carried-to-map-lts.Need-returns-4 (carried-to-map-claims t) (carried-to-map-at t) carried-to-map.Post
-  carried-to-map-returns-4 c =
-      let r = c .before .before in
-      map-other (r .generic-at .ensures) (map-entry r .pre .1) Other (c .enum-told4 .given .1) refl
+carried-to-map-met : {M : Type 1} (t : ℕ) → carried-to-map-lts.Closed (carried-to-map-claims t) (carried-to-map-at t) carried-to-map.Post M
+carried-to-map-met t = carried-to-map-lts.spec (carried-to-map-claims t) (carried-to-map-at t) carried-to-map.Post
+    (λ c κs. search needs)  -- generic-at-requires
+    (λ c. search needs)  -- enum-told
+    (λ c. search needs)  -- enum-told-2
+    -- add-carried
+    (λ c. let r = c .before .before in omega (arith, map-in (r .generic-at .ensures) (map-entry r .pre .1) (c .enum-told2 .given .1) .0))
+    -- add-carried-2
+    (λ c. let r = c .before .before in omega (arith, map-in (r .generic-at .ensures) (map-entry r .pre .1) (c .enum-told2 .given .1) .1))
+    -- carried-requires
+    (λ c κs.
+    let r = c .before .before in
+    let h = r .generic-at .ensures in
+    let i = map-entry r .pre .1 in
+    (omega (arith, map-less h i), map-pair h i (c .enum-told2 .given .1) (i .given)))
+    (λ c. search needs)  -- enum-told-3
+    -- add-is-json
+    (λ c. let r = c .before .before in let i = map-entry r .pre .1 in omega (arith, in-table (map-old (r .generic-at .ensures) i (i .given .old) .row) .here))
+    (λ c κs. let r = c .before .before in let i = map-entry r .pre .1 in map-old (r .generic-at .ensures) i (i .given .old))  -- is-json-requires
+    (λ c. search needs)  -- enum-told-4
+    (λ c. let r = c .before .before in map-other (r .generic-at .ensures) (map-entry r .pre .1) Array (c .enum-told .given .1) refl)  -- returns
+    -- returns-2
+    (λ c. let r = c .before .before .before in map-map (r .generic-at .ensures) (map-entry r .pre .1) (c .before .enum-told2 .given .1) (c .carried .ensures))
+    -- returns-3
+    (λ c.
+    let r = c .before .before .before in
+    map-object (r .generic-at .ensures) (map-entry r .pre .1) (c .before .enum-told3 .given .1) (c .is-json .ensures))
+    (λ c. let r = c .before .before in map-other (r .generic-at .ensures) (map-entry r .pre .1) Other (c .enum-told4 .given .1) refl)  -- returns-4
 
 -- ---- carried_to_object
 
 abbrev carried-to-object-claims : ℕ → carried-to-object-lts.Claims
-carried-to-object-claims t = (of-objects-reads.Asked, of-objects-reads.Learnt, find-reads.Asked, find-reads.Learnt, failing-field-below t, failing-field.Post)
+carried-to-object-claims t = (of-objects.Asked, of-objects.Learnt, find.Asked, find.Learnt, failing-field-below t, failing-field.Post)
 
-module _ (t : ℕ) where
-  -- the body's row
-  object-fits : (c : carried-to-object-lts.Start (carried-to-object-claims t) (carried-to-object-at t) carried-to-object.Post) → Fits w64 (c .args .b + 2)
-  object-fits c = omega (arith, in-table (as-row (object-row (c .pre .1))) .here, c .good)
+module _ {k : carried-to-object-lts.Claims} {P : In 4 carried-to-object-kinds.ps} where
+  -- the entry, from where the new definition was looked at
+  abbrev object-entry : carried-to-object-lts.After-of-objects k P carried-to-object.Post → carried-to-object-lts.Start k P carried-to-object.Post
+  object-entry c = c .before .before .before .before .before
 
-  -- only objects meet the new definition; the entry from there
-  abbrev object-entry : carried-to-object-lts.Else1 (carried-to-object-claims t) (carried-to-object-at t) carried-to-object.Post
-      → carried-to-object-lts.Start (carried-to-object-claims t) (carried-to-object-at t) carried-to-object.Post
-  object-entry c = c .before .before .before .before .before .before
+  -- the entry, from where "required" was looked up
+  abbrev object-found : carried-to-object-lts.After-find k P carried-to-object.Post → carried-to-object-lts.Start k P carried-to-object.Post
+  object-found c = object-entry (c .before .before .before)
 
-  object-objects : (c : carried-to-object-lts.Else1 (carried-to-object-claims t) (carried-to-object-at t) carried-to-object.Post) →
-      let a = object-entry c .args in
-      OfObjectsRow (a .new .now) (a .rows1 .now) (a .a) true
-  object-objects c = rw (not-false (c .before .of-objects .result) (c .if1 .left)) at (c .before .of-objects .ensures)
-
-  -- the rows of "required" and of "optional"
-  object-required : (c : carried-to-object-lts.After-find (carried-to-object-claims t) (carried-to-object-at t) carried-to-object.Post) →
-      let a = object-entry (c .before .before) .args in
-      Finds (a .old .now) (a .rows2 .now) (a .b + 2) (text "required") (c .find .result)
-  object-required c = rw (spelled .required) at (c .find .ensures)
-
-  object-optional : (c : carried-to-object-lts.After-find2 (carried-to-object-claims t) (carried-to-object-at t) carried-to-object.Post) →
-      let a = object-entry (c .before .before .before .before .before .before) .args in
-      Finds (a .old .now) (a .rows2 .now) (a .b + 2) (text "optional") (c .find2 .result)
-  object-optional c = rw (spelled .optional) at (c .find2 .ensures)
-
-  carried-to-object-returns : carried-to-object-lts.Need-returns (carried-to-object-claims t) (carried-to-object-at t) carried-to-object.Post
-  carried-to-object-returns c =
-      let o = c .before .of-objects in
-      object-other (c .before .before .before .before .before .before .pre .1) (rw (not-true (o .result) (c .if1 .taken)) at (o .ensures))
-
-  carried-to-object-failing-field-requires : carried-to-object-lts.Need-failing-field-requires (carried-to-object-claims t) (carried-to-object-at t) carried-to-object.Post
-  carried-to-object-failing-field-requires c κs =
-      let s = object-entry (c .before .before) in
-      (omega (arith, object-less (s .pre .1) (object-required c), s .pre .0), required-pair (s .pre .1) (object-required c) (s .pre .1 .given))
-
-  carried-to-object-returns-2 : carried-to-object-lts.Need-returns-2 (carried-to-object-claims t) (carried-to-object-at t) carried-to-object.Post
-  carried-to-object-returns-2 c =
-      let f = c .before .before in
-      let e = f .before .before in
-      object-fails (object-entry e .pre .1) (object-objects e) (object-required f) (c .before .failing-field .ensures) (c .if2 .taken)
-
-  carried-to-object-failing-field-requires-2 : carried-to-object-lts.Need-failing-field-requires-2 (carried-to-object-claims t) (carried-to-object-at t) carried-to-object.Post
-  carried-to-object-failing-field-requires-2 c κs =
-      let s = object-entry (c .before .before .before .before .before .before) in
-      (omega (arith, object-less (s .pre .1) (object-optional c), s .pre .0), optional-pair (s .pre .1) (object-optional c) (s .pre .1 .given))
-
-  carried-to-object-returns-3 : carried-to-object-lts.Need-returns-3 (carried-to-object-claims t) (carried-to-object-at t) carried-to-object.Post
-  carried-to-object-returns-3 c =
-      let i = c .before .before .before in
-      let f = i .before .before in
-      let e = f .before .before in
-      object-ends (object-entry e .pre .1) (object-objects e) (object-required f) (i .before .failing-field .ensures) (i .if2 .left) (object-optional (c .before)) (c .failing-field2 .ensures)
+carried-to-object-met : {M : Type 1} (t : ℕ) → carried-to-object-lts.Closed (carried-to-object-claims t) (carried-to-object-at t) carried-to-object.Post M
+carried-to-object-met t = carried-to-object-lts.spec (carried-to-object-claims t) (carried-to-object-at t) carried-to-object.Post
+    (λ c κs. search needs)  -- of-objects-requires
+    (λ c. object-other (object-entry (c .before) .pre .1) (c .before .of-objects .ensures) (not-true _ (c .if1 .taken)))  -- returns
+    (λ c. omega (arith, object-in (object-entry (c .before) .pre .1) .here))  -- add-find
+    (λ c. search needs)  -- slice-aggregate-find
+    (λ c κs. object-row (object-entry (c .before .before) .pre .1))  -- find-requires
+    -- failing-field-requires
+    (λ c κs.
+    let i = object-found c .pre .1 in
+    let f = find-required (c .find .ensures) in
+    (omega (arith, object-less i f), required-pair i f (i .given)))
+    -- returns-2
+    (λ c.
+    let f = c .before .before in
+    let e = f .before .before in
+    object-fails (object-found f .pre .1) (e .before .of-objects .ensures) (not-false _ (e .if1 .left)) (find-required (f .find .ensures))
+    (c .before .failing-field .ensures) (c .if2 .taken))
+    (λ c. omega (arith, object-in (object-found (c .before .before) .pre .1) .here))  -- add-find-2
+    (λ c. search needs)  -- slice-aggregate-find-2
+    (λ c κs. object-row (object-found (c .before .before .before) .pre .1))  -- find-requires-2
+    -- failing-field-requires-2
+    (λ c κs.
+    let i = object-found (c .before .before .before .before) .pre .1 in
+    let f = find-optional (c .find2 .ensures) in
+    (omega (arith, object-less i f), optional-pair i f (i .given)))
+    -- returns-3
+    (λ c.
+    let k = c .before .before .before in
+    let f = k .before .before in
+    let e = f .before .before in
+    object-ends (object-found f .pre .1) (e .before .of-objects .ensures) (not-false _ (e .if1 .left)) (find-required (f .find .ensures))
+    (k .before .failing-field .ensures) (k .if2 .left) (find-optional (c .before .find2 .ensures)) (c .failing-field2 .ensures))
 
 -- ---- failing_field
 
 abbrev failing-field-claims : ℕ → failing-field-lts.Claims
 failing-field-claims t = (
-  row-at-reads.Asked,
-  row-at-reads.Learnt,
-  wide-under-reads.Asked,
-  wide-under-reads.Learnt,
-  failing-wide-below t,
+  row-at.Asked,
+  row-at.Learnt,
+  wide-under.Asked,
+  wide-under.Learnt,
+  below failing-wide-kinds.ps μ-failing-wide failing-wide.Pre t,
   failing-wide.Post,
-  carried-field-below t,
+  below carried-field-kinds.ps μ-carried-field carried-field.Pre t,
   carried-field.Post,
 )
 
-abbrev failing-field-Inv-loop : failing-field-lts.InvT-loop
-failing-field-Inv-loop new old rows1 rows2 a fields required left₀ row₀ left row = InFields new old rows1 rows2 a fields required row left
+abbrev in-fields : failing-field-lts.InvT-loop
+in-fields new old rows1 rows2 a fields required left₀ row₀ left row = InFields new old rows1 rows2 a fields required row left
 
-abbrev failing-field-μ-loop : failing-field-lts.MeasureT-loop
-failing-field-μ-loop new old rows1 rows2 a fields required left₀ row₀ left row = left
+abbrev fields-left : failing-field-lts.MeasureT-loop
+fields-left new old rows1 rows2 a fields required left₀ row₀ left row = left
 
-module _ (t : ℕ) where
-  -- fields that are there; the entry from there, and from a turn
-  abbrev fields-entry : failing-field-lts.Else1 (failing-field-claims t) (failing-field-at t) failing-field.Post failing-field-Inv-loop failing-field-μ-loop
-      → failing-field-lts.Start (failing-field-claims t) (failing-field-at t) failing-field.Post failing-field-Inv-loop failing-field-μ-loop
+module _ {k : failing-field-lts.Claims} {P : In 4 failing-field-kinds.ps} where
+  -- the entry, from where there are fields
+  abbrev fields-entry : failing-field-lts.Else1 k P failing-field.Post in-fields fields-left
+      → failing-field-lts.Start k P failing-field.Post in-fields fields-left
   fields-entry c = c .before .before .before .before .before
 
-  abbrev turn-start : failing-field-lts.In-loop (failing-field-claims t) (failing-field-at t) failing-field.Post failing-field-Inv-loop failing-field-μ-loop
-      → failing-field-lts.Else1 (failing-field-claims t) (failing-field-at t) failing-field.Post failing-field-Inv-loop failing-field-μ-loop
-  turn-start c = c .before .before .before .before .before
+  -- the entry, from a turn
+  abbrev fields-turn : failing-field-lts.In-loop k P failing-field.Post in-fields fields-left
+      → failing-field-lts.Start k P failing-field.Post in-fields fields-left
+  fields-turn c = fields-entry (c .before .before .before .before .before)
 
-  fields-row : (c : failing-field-lts.Else1 (failing-field-claims t) (failing-field-at t) failing-field.Post failing-field-Inv-loop failing-field-μ-loop)
-      → 0 < fields-entry c .args .fields
-  fields-row c = omega (arith, c .if1 .left)
-
-  fields-object : (c : failing-field-lts.Else1 (failing-field-claims t) (failing-field-at t) failing-field.Post failing-field-Inv-loop failing-field-μ-loop) →
-      let a = fields-entry c .args in
-      ObjectRow (a .old .now) (a .rows2 .now) (a .fields)
-  fields-object c = part-object (fields-entry c .pre .1 .old .part) (fields-row c)
-
-  -- one of them
-  fields-one : (c : failing-field-lts.In-loop (failing-field-claims t) (failing-field-at t) failing-field.Post failing-field-Inv-loop failing-field-μ-loop) →
-      let a = fields-entry (turn-start c) .args in
-      FieldPairing (a .new .now) (a .old .now) (a .rows1 .now) (a .rows2 .now) (a .a) (c .before .loop .row)
-  fields-one c = field-pair (c .before .loop .inv) (c .loop-test .taken)
-
-  fields-less : (c : failing-field-lts.In-loop (failing-field-claims t) (failing-field-at t) failing-field.Post failing-field-Inv-loop failing-field-μ-loop) →
-      3 * word (fields-entry (turn-start c) .args .rows2 .now) (c .before .loop .row + 1) 4 + 3 < t
-  fields-less c =
-      let s = fields-entry (turn-start c) in
-      let rows = part-rows (s .args .rows2 .now) (s .args .fields) (fields-row (turn-start c)) in
-      omega (arith, field-less (c .before .loop .inv) (c .loop-test .taken), rows, s .pre .0)
-
-  failing-field-failing-wide-requires : failing-field-lts.Need-failing-wide-requires (failing-field-claims t) (failing-field-at t) failing-field.Post failing-field-Inv-loop failing-field-μ-loop
-  failing-field-failing-wide-requires c κs =
-      let e = c .before .before .before in
-      let s = fields-entry e in
-      (omega (arith, s .pre .0), (s .pre .1, (fields-row e, rw (c .before .before .row-at .ensures .children) at (c .before .wide-under .ensures (c .if2 .taken)))))
-
-  failing-field-add-row : failing-field-lts.Need-add-row (failing-field-claims t) (failing-field-at t) failing-field.Post failing-field-Inv-loop failing-field-μ-loop
-  failing-field-add-row c = let e = c .before .before .before in omega (arith, in-table (as-row (fields-object e)) .here, fields-entry e .good)
-
-  failing-field-loop-holds : failing-field-lts.Need-loop-holds (failing-field-claims t) (failing-field-at t) failing-field.Post failing-field-Inv-loop failing-field-μ-loop
-  failing-field-loop-holds c = let e = c .before .before .before in fields-start (fields-entry e .pre .1) (fields-row e) (c .before .before .row-at .ensures .children)
-
-  failing-field-returns-3 : failing-field-lts.Need-returns-3 (failing-field-claims t) (failing-field-at t) failing-field.Post failing-field-Inv-loop failing-field-μ-loop
-  failing-field-returns-3 c =
-      let p = c .before .before in
-      field-fails (p .before .loop .inv) (p .loop-test .taken) (c .before .carried-field .ensures) (not-true _ (c .if3 .taken))
-
-  failing-field-add-row-at : failing-field-lts.Need-add-row-at (failing-field-claims t) (failing-field-at t) failing-field.Post failing-field-Inv-loop failing-field-μ-loop
-  failing-field-add-row-at c = let p = c .before .before in omega (arith, in-table (fields-one p .old .row) .here, fields-entry (turn-start p) .good)
-
-  failing-field-loop-again : failing-field-lts.Need-loop-again (failing-field-claims t) (failing-field-at t) failing-field.Post failing-field-Inv-loop failing-field-μ-loop
-  failing-field-loop-again c =
-      let p = c .before .before .before in
-      field-next (p .before .loop .inv) (p .loop-test .taken) (c .before .before .carried-field .ensures) (not-false _ (c .before .if3 .left)) (c .row-at2 .ensures)
+failing-field-met : {M : Type 1} (t : ℕ) → failing-field-lts.Closed (failing-field-claims t) (failing-field-at t) failing-field.Post M
+failing-field-met t = failing-field-lts.spec (failing-field-claims t) (failing-field-at t) failing-field.Post in-fields fields-left
+    (λ c. failing-absent (c .if1 .taken))  -- returns
+    (λ c κs. fields-in (fields-entry c .pre .1 .old) (omega arith))  -- row-at-requires
+    (λ c κs. search needs)  -- wide-under-requires
+    -- failing-wide-requires
+    (λ c κs.
+    let r = c .before .before in
+    let many = rw (r .row-at .ensures .children) at (c .before .wide-under .ensures (c .if2 .taken)) in
+    (omega arith, (fields-entry (r .before) .pre .1, (omega arith, many))))
+    (λ c. c .failing-wide .ensures)  -- returns-2
+    (λ c. omega (arith, fields-in (fields-entry (c .before .before .before) .pre .1 .old) (omega arith) .here))  -- add-row
+    (λ c. let r = c .before .before in failing-start (fields-entry (r .before) .pre .1) (omega arith) (r .row-at .ensures .children))  -- loop-holds
+    -- carried-field-requires
+    (λ c κs. let a = c .before .loop .inv in (omega (arith, field-less a (c .loop-test .taken)), field-pair a (c .loop-test .taken)))
+    -- returns-3
+    (λ c.
+    let p = c .before .before in
+    field-fails (p .before .loop .inv) (p .loop-test .taken) (c .before .carried-field .ensures) (not-true _ (c .if3 .taken)))
+    -- add-row-at
+    (λ c. let p = c .before .before in omega (arith, in-table (field-pair (p .before .loop .inv) (p .loop-test .taken) .old .row) .here, fields-turn p .good))
+    (λ c κs. let p = c .before .before in in-table (field-pair (p .before .loop .inv) (p .loop-test .taken) .old .row))  -- row-at-requires-2
+    (λ c. omega arith)  -- sub-left
+    (λ c. omega arith)  -- loop-less
+    -- loop-again
+    (λ c.
+    let p = c .before .before .before in
+    field-next (p .before .loop .inv) (p .loop-test .taken) (c .before .before .carried-field .ensures)
+    (not-false _ (c .before .if3 .left)) (c .row-at2 .ensures))
+    (λ c. failing-end (c .before .loop .inv) (c .loop-test .left))  -- returns-4
 
 -- ---- failing_wide
 
 abbrev failing-wide-claims : ℕ → failing-wide-lts.Claims
-failing-wide-claims t = (
-  match-under-reads.Asked,
-  match-under-reads.Learnt,
-  row-at-reads.Asked,
-  row-at-reads.Learnt,
-  carried-found-below t,
-  carried-found.Post,
-)
+failing-wide-claims t = (match-under.Asked, match-under.Learnt, row-at.Asked, row-at.Learnt, carried-found-below t, carried-found.Post)
 
-abbrev failing-wide-Inv-loop : failing-wide-lts.InvT-loop
-failing-wide-Inv-loop new old rows1 rows2 a fields required values count i₀ row₀ i row = InWide new old rows1 rows2 a fields required values count i row
+abbrev in-wide : failing-wide-lts.InvT-loop
+in-wide new old rows1 rows2 a fields required values count i₀ row₀ i row = InWide new old rows1 rows2 a fields required values count i row
 
-abbrev failing-wide-μ-loop : failing-wide-lts.MeasureT-loop
-failing-wide-μ-loop new old rows1 rows2 a fields required values count i₀ row₀ i row = count - i
+abbrev wide-left : failing-wide-lts.MeasureT-loop
+wide-left new old rows1 rows2 a fields required values count i₀ row₀ i row = count - i
 
-module _ (t : ℕ) where
-  -- the old fields; the entry, from before the loop and from a turn
-  wide-object : (c : failing-wide-lts.Start (failing-wide-claims t) (failing-wide-at t) failing-wide.Post failing-wide-Inv-loop failing-wide-μ-loop) →
-      ObjectRow (c .args .old .now) (c .args .rows2 .now) (c .args .fields)
-  wide-object c = part-object (c .pre .1 .0 .old .part) (c .pre .1 .1 .0)
+module _ {k : failing-wide-lts.Claims} {P : In 4 failing-wide-kinds.ps} where
+  -- the entry, from where nothing is found yet
+  abbrev wide-entry : failing-wide-lts.After-values k P failing-wide.Post in-wide wide-left → failing-wide-lts.Start k P failing-wide.Post in-wide wide-left
+  wide-entry c = c .before .before .before .before .before
 
-  abbrev wide-begin : failing-wide-lts.After-struct-known (failing-wide-claims t) (failing-wide-at t) failing-wide.Post failing-wide-Inv-loop failing-wide-μ-loop
-      → failing-wide-lts.Start (failing-wide-claims t) (failing-wide-at t) failing-wide.Post failing-wide-Inv-loop failing-wide-μ-loop
-  wide-begin c = c .before .before .before .before .before .before .before .before
+  -- the entry, from a turn
+  abbrev wide-turn : failing-wide-lts.In-loop k P failing-wide.Post in-wide wide-left → failing-wide-lts.Start k P failing-wide.Post in-wide wide-left
+  wide-turn c = wide-entry (c .before .before .before .before .before)
 
-  abbrev wide-entry : failing-wide-lts.In-loop (failing-wide-claims t) (failing-wide-at t) failing-wide.Post failing-wide-Inv-loop failing-wide-μ-loop
-      → failing-wide-lts.Start (failing-wide-claims t) (failing-wide-at t) failing-wide.Post failing-wide-Inv-loop failing-wide-μ-loop
-  wide-entry c = wide-begin (c .before .before)
-
-  -- one of them
-  wide-one : (c : failing-wide-lts.In-loop (failing-wide-claims t) (failing-wide-at t) failing-wide.Post failing-wide-Inv-loop failing-wide-μ-loop) →
-      let a = wide-entry c .args in
-      FieldPairing (a .new .now) (a .old .now) (a .rows1 .now) (a .rows2 .now) (a .a) (c .before .loop .row)
-  wide-one c = field-pair (c .before .loop .inv .ahead) (wide-some (c .before .loop .inv) (c .loop-test .taken))
-
-  wide-less : (c : failing-wide-lts.In-loop (failing-wide-claims t) (failing-wide-at t) failing-wide.Post failing-wide-Inv-loop failing-wide-μ-loop) →
-      3 * word (wide-entry c .args .rows2 .now) (c .before .loop .row + 1) 4 + 2 < t
-  wide-less c =
-      let s = wide-entry c in
-      let rows = part-rows (s .args .rows2 .now) (s .args .fields) (s .pre .1 .1 .0) in
-      omega (arith, field-less (c .before .loop .inv .ahead) (wide-some (c .before .loop .inv) (c .loop-test .taken)), rows, s .pre .0)
-
-  failing-wide-match-under-requires : failing-wide-lts.Need-match-under-requires (failing-wide-claims t) (failing-wide-at t) failing-wide.Post failing-wide-Inv-loop failing-wide-μ-loop
-  failing-wide-match-under-requires c κs =
-      let s = c .before .before .before .before .before in
-      let many = s .pre .1 .1 .1 in
-      ((s .pre .1 .0 .new, many .is), (wide-object s, (many .few, refl)))
-
-  failing-wide-loop-holds : failing-wide-lts.Need-loop-holds (failing-wide-claims t) (failing-wide-at t) failing-wide.Post failing-wide-Inv-loop failing-wide-μ-loop
-  failing-wide-loop-holds c =
-      let s = wide-begin c in
-      let e = c .before .row-at .ensures .children in
-      wide-start (s .pre .1 .0) (s .pre .1 .1 .0) e (omega (arith, e, s .pre .1 .1 .1 .few)) (c .before .before .match-under .ensures)
-
-  failing-wide-returns : failing-wide-lts.Need-returns (failing-wide-claims t) (failing-wide-at t) failing-wide.Post failing-wide-Inv-loop failing-wide-μ-loop
-  failing-wide-returns c =
-      let p = c .before .before in
-      let a = p .before .loop .inv in
-      field-fails (a .ahead) (wide-some a (p .loop-test .taken)) (c .before .carried-found .ensures) (not-true _ (c .if1 .taken))
-
-  failing-wide-loop-again : failing-wide-lts.Need-loop-again (failing-wide-claims t) (failing-wide-at t) failing-wide.Post failing-wide-Inv-loop failing-wide-μ-loop
-  failing-wide-loop-again c =
-      let p = c .before .before .before in
-      wide-next (p .before .loop .inv) (p .loop-test .taken) (c .before .before .carried-found .ensures) (not-false _ (c .before .if1 .left)) (c .row-at2 .ensures)
-
-pub +carried+carried-field+carried-found+carried-to-array+carried-to-map+carried-to-object+failing-field+failing-wide-spec :
-    {M : Type 1} → statement M
-+carried+carried-field+carried-found+carried-to-array+carried-to-map+carried-to-object+failing-field+failing-wide-spec = close μ-carried μ-carried-field μ-carried-found μ-carried-to-array μ-carried-to-map μ-carried-to-object μ-failing-field μ-failing-wide
-    -- ---- carried
-    (λ t. carried-lts.spec (carried-claims t) (carried-at t) carried.Post
-    (λ c κs. c .before .before .before .before .pre .1 .old)  -- generic-at-requires
-    (λ c. search needs)  -- enum-told
-    (λ c κs. let r = c .before .before in (carried-less t r, carried-to t r Array (c .enum-told .given .1)))  -- carried-to-array-requires
-    (λ c. search needs)  -- enum-told-2
-    (λ c κs. let r = c .before .before in (carried-less t r, carried-to t r Map (c .enum-told2 .given .1)))  -- carried-to-map-requires
-    (λ c. search needs)  -- enum-told-3
-    (carried-carried-to-object-requires t)
-    (λ c. search needs)  -- enum-told-4
-    (λ c κs. carried-entry t (c .before .before) .pre .1 .new)  -- type-at-requires
-    (λ c κs. carried-entry t (c .before .before .before) .pre .1 .old)  -- type-at-requires-2
-    (λ c κs. tt)  -- carried-name-requires
-    (λ c. c .carried-to-array .ensures)  -- returns
-    (λ c. c .carried-to-map .ensures)  -- returns-2
-    (λ c. c .carried-to-object .ensures)  -- returns-3
-    (carried-returns-4 t))
-    -- ---- carried-field
-    (λ t. carried-field-lts.spec (carried-field-claims t) (carried-field-at t) carried-field.Post
-    (λ c κs. c .before .before .before .before .pre .1 .name)  -- row-at-requires
-    (λ c. search needs)  -- cast-from
-    (λ c. omega (arith, field-quotes t (c .before), field-entry t (c .before) .good))  -- add-from
-    (λ c. search needs)  -- cast-to
-    (λ c. omega (arith, field-quotes t (c .before .before)))  -- sub-to
-    (λ c. omega (arith, field-quotes t (c .before .before)))  -- sub-find-under
-    (λ c. omega (arith, field-quotes t (c .before .before)))  -- part-find-under-start
-    (λ c. omega (arith, field-quotes t (c .before .before)))  -- part-find-under-end
-    (λ c κs. field-entry t (c .before .before .before) .pre .1 .new)  -- find-under-requires
-    (carried-field-carried-found-requires t)
-    (λ c. c .carried-found .ensures))  -- returns
-    -- ---- carried-found
-    (λ t. carried-found-lts.spec (carried-found-claims t) (carried-found-at t) carried-found.Post
-    (carried-found-add-carried t)
-    (carried-found-carried-requires t)
-    (carried-found-returns t)
-    (carried-found-returns-2 t)
-    (carried-found-add-is-json t)
-    (λ c κs. c .before .before .before .before .before .before .pre .1 .0 .old)  -- is-json-requires
-    (carried-found-returns-3 t))
-    -- ---- carried-to-array
-    (λ t. carried-to-array-lts.spec (carried-to-array-claims t) (carried-to-array-at t) carried-to-array.Post
-    (λ c κs. c .before .before .before .before .pre .1 .given .new)  -- generic-at-requires
-    (λ c. search needs)  -- enum-told
-    (carried-to-array-add-carried t)
-    (carried-to-array-add-carried-2 t)
-    (λ c κs. let r = c .before .before in (array-falls t r, array-inside t r (c .enum-told .given .1)))  -- carried-requires
-    (λ c. search needs)  -- enum-told-2
-    (λ c. search needs)  -- enum-told-3
-    (λ c. search needs)  -- enum-told-4
-    (carried-to-array-returns t)
-    (carried-to-array-returns-2 t)
-    (carried-to-array-returns-3 t)
-    (carried-to-array-returns-4 t))
-    -- ---- carried-to-map
-    (λ t. carried-to-map-lts.spec (carried-to-map-claims t) (carried-to-map-at t) carried-to-map.Post
-    (λ c κs. c .before .before .before .before .pre .1 .given .new)  -- generic-at-requires
-    (λ c. search needs)  -- enum-told
-    (λ c. search needs)  -- enum-told-2
-    (carried-to-map-add-carried t)
-    (carried-to-map-add-carried-2 t)
-    (λ c κs. let r = c .before .before in (map-falls t r, map-inside t r (c .enum-told2 .given .1)))  -- carried-requires
-    (λ c. search needs)  -- enum-told-3
-    (λ c. let r = c .before .before in omega (arith, in-table (map-inner t r .row) .here, map-entry t r .good))  -- add-is-json
-    (λ c κs. map-inner t (c .before .before))  -- is-json-requires
-    (λ c. search needs)  -- enum-told-4
-    (carried-to-map-returns t)
-    (carried-to-map-returns-2 t)
-    (carried-to-map-returns-3 t)
-    (carried-to-map-returns-4 t))
-    -- ---- carried-to-object
-    (λ t. carried-to-object-lts.spec (carried-to-object-claims t) (carried-to-object-at t) carried-to-object.Post
-    (λ c κs. c .before .before .before .before .pre .1 .given .new)  -- of-objects-requires
-    (carried-to-object-returns t)
-    (λ c. object-fits t (object-entry t c))  -- add-find
-    (λ c. search needs)  -- slice-aggregate-find
-    (λ c κs. object-row (object-entry t (c .before) .pre .1))  -- find-requires
-    (carried-to-object-failing-field-requires t)
-    (carried-to-object-returns-2 t)
-    (λ c. object-fits t (object-entry t (c .before .before .before .before)))  -- add-find-2
-    (λ c. search needs)  -- slice-aggregate-find-2
-    (λ c κs. object-row (object-entry t (c .before .before .before .before .before) .pre .1))  -- find-requires-2
-    (carried-to-object-failing-field-requires-2 t)
-    (carried-to-object-returns-3 t))
-    -- ---- failing-field
-    (λ t. failing-field-lts.spec (failing-field-claims t) (failing-field-at t) failing-field.Post failing-field-Inv-loop failing-field-μ-loop
-    (λ c. fields-none (c .if1 .taken))  -- returns
-    (λ c κs. in-table (as-row (fields-object t c)))  -- row-at-requires
-    (λ c κs. fields-entry t (c .before) .pre .1 .new)  -- wide-under-requires
-    (failing-field-failing-wide-requires t)
-    (λ c. c .failing-wide .ensures)  -- returns-2
-    (failing-field-add-row t)
-    (failing-field-loop-holds t)
-    (λ c κs. (fields-less t c, fields-one t c))  -- carried-field-requires
-    (failing-field-returns-3 t)
-    (failing-field-add-row-at t)
-    (λ c κs. in-table (fields-one t (c .before .before) .old .row))  -- row-at-requires-2
-    (λ c. omega arith)  -- sub-left
-    (λ c. omega arith)  -- loop-less
-    (failing-field-loop-again t)
-    (λ c. fields-end (c .before .loop .inv) (c .loop-test .left)))  -- returns-4
-    -- ---- failing-wide
-    λ t. failing-wide-lts.spec (failing-wide-claims t) (failing-wide-at t) failing-wide.Post failing-wide-Inv-loop failing-wide-μ-loop
-    (failing-wide-match-under-requires t)
-    (λ c κs. in-table (as-row (wide-object t (c .before .before .before .before .before .before))))  -- row-at-requires
+failing-wide-met : {M : Type 1} (t : ℕ) → failing-wide-lts.Closed (failing-wide-claims t) (failing-wide-at t) failing-wide.Post M
+failing-wide-met t = failing-wide-lts.spec (failing-wide-claims t) (failing-wide-at t) failing-wide.Post in-wide wide-left
+    -- match-under-requires
+    (λ c κs.
+    let p = wide-entry c .pre .1 in
+    ((p .0 .new, p .1 .1 .is), (part-object (p .0 .old .part) (p .1 .0), (p .1 .1 .few, refl))))
+    (λ c κs. let p = wide-entry (c .before) .pre .1 in fields-in (p .0 .old) (p .1 .0))  -- row-at-requires
     (λ c. search needs)  -- cast-count
-    (λ c. let s = wide-begin t c in omega (arith, in-table (as-row (wide-object t s)) .here, s .good))  -- add-row
-    (failing-wide-loop-holds t)
-    (λ c. omega (arith, c .before .loop .inv .few, c .loop-test .taken))  -- mul-found
-    (λ c. omega (arith, c .before .loop .inv .few, c .loop-test .taken))  -- array-read-found
-    (λ c κs. (wide-less t c, (wide-one t c, wide-found (c .before .loop .inv) (c .loop-test .taken))))  -- carried-found-requires
-    (failing-wide-returns t)
-    (λ c. let p = c .before .before in omega (arith, in-table (wide-one t p .old .row) .here, wide-entry t p .good))  -- add-row-at
-    (λ c κs. in-table (wide-one t (c .before .before) .old .row))  -- row-at-requires-2
-    (λ c. let p = c .before .before .before in omega (arith, p .before .loop .inv .few, p .loop-test .taken))  -- add-i
+    (λ c. let p = wide-entry (c .before .before .before) .pre .1 in omega (arith, fields-in (p .0 .old) (p .1 .0) .here))  -- add-row
+    -- loop-holds
+    (λ c.
+    let p = wide-entry (c .before .before .before) .pre .1 in
+    let e = c .before .row-at .ensures .children in
+    wide-start (p .0) (p .1 .0) e (omega (arith, p .1 .1 .few)) (c .before .before .match-under .ensures))
+    (λ c. omega (arith, c .before .loop .inv .few))  -- mul-found
+    (λ c. omega (arith, c .before .loop .inv .few))  -- array-read-found
+    -- carried-found-requires
+    (λ c κs.
+    let a = c .before .loop .inv in
+    let l = c .loop-test .taken in
+    let some = wide-some a l in
+    (omega (arith, field-less (a .ahead) some), (field-pair (a .ahead) some, wide-found a l)))
+    -- returns
+    (λ c.
+    let p = c .before .before in
+    let a = p .before .loop .inv in
+    field-fails (a .ahead) (wide-some a (p .loop-test .taken)) (c .before .carried-found .ensures) (not-true _ (c .if1 .taken)))
+    -- add-row-at
+    (λ c.
+    let p = c .before .before in
+    let a = p .before .loop .inv in
+    omega (arith, in-table (field-pair (a .ahead) (wide-some a (p .loop-test .taken)) .old .row) .here, wide-turn p .good))
+    -- row-at-requires-2
+    (λ c κs.
+    let p = c .before .before in
+    let a = p .before .loop .inv in
+    in-table (field-pair (a .ahead) (wide-some a (p .loop-test .taken)) .old .row))
+    (λ c. omega (arith, c .before .before .before .before .loop .inv .few))  -- add-i
     (λ c. omega arith)  -- loop-less
-    (failing-wide-loop-again t)
+    -- loop-again
+    (λ c.
+    let p = c .before .before .before in
+    wide-next (p .before .loop .inv) (p .loop-test .taken) (c .before .before .carried-found .ensures)
+    (not-false _ (c .before .if1 .left)) (c .row-at2 .ensures))
     (λ c. wide-end (c .before .loop .inv) (c .loop-test .left))  -- returns-2
+
+pub +carried+carried-field+carried-found+carried-to-array+carried-to-map+carried-to-object+failing-field+failing-wide-spec : {M : Type 1} → statement M
++carried+carried-field+carried-found+carried-to-array+carried-to-map+carried-to-object+failing-field+failing-wide-spec =
+    close μ-carried μ-carried-field μ-carried-found μ-carried-to-array μ-carried-to-map μ-carried-to-object μ-failing-field μ-failing-wide
+    carried-met carried-field-met carried-found-met carried-to-array-met carried-to-map-met carried-to-object-met failing-field-met failing-wide-met

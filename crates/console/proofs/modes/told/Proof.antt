@@ -18,7 +18,8 @@ use prog.Wp.{Heap, Calls, Loops, WpFn, Tables}
 use ghost.Atoms.{Atoms, sem}
 use contract.Monad.{Fun}
 use contract.Running.{givenOf, tables, tablesOf}
-use types.Kit.{Given, atRet, ‵, raw, _⊛_, some, later, _$_, _∵_, !, qed, by, move, keep, drop, use1, use2, split, join, pick, rewrite, fsplit, fjoin, fpick, suffices, frame, await, done}
+use types.Kit.{Given, atRet, ‵, raw, _⊛_, some, later, _$_, _∵_, !, qed, by, move, keep, drop, use1, use2, split, join, pick, rewrite, fsplit}
+use types.Kit.{fjoin, fpick, suffices, frame, await, done}
 use types.Run.{look, init, forget, stop, fld, from, load, lit, of-opd, bin, addr, assigns, and-then, no-more, land, first, branches, skips}
 use types.Run.{exec, returns-within, returns, enter, alloc1, alloc0, params1, pass1, pass0, free1, free0}
 use types.Part.{whole, sub, look-in}
@@ -76,11 +77,14 @@ module _ {M : Type 1} (𝓤 : URA M) (H : Heap 𝓤) (A : Atoms 𝓤) (memory : 
 module _ {M : Type 1} (𝓤 : URA M) (H : Heap 𝓤) (A : Atoms 𝓤) (W : Given 𝓤 H A) (memory : Memory → SProp 𝓤) (run : Routine → Fun 𝓤)
     (fd : ℤ) (r : Stat) (is-fd : Is i32 fd (sint-vals w32 fd)) (is-r : Is T.the-row r (vals r)) where
   abbrev Post : Val → SProp 𝓤
-  Post = walkOf 𝓤 H A told.ended stayed (told.clauses 𝓤 H A memory run) .post ((tt, tt, tt, (fd, (r, tt)), (sint-vals w32 fd, (vals r, tt))), tt)
+  Post = walkOf 𝓤 H A told.ended stayed (told.clauses 𝓤 H A memory run) .post
+      ((tt, tt, tt, (fd, (r, tt)), (sint-vals w32 fd, (vals r, tt))), tt)
 
   exits : (n : ℕ) → n < 2 ^ 32 → ent 𝓤 (emp 𝓤) (Post (vint w32 n))
   exits n fits =
-      qed W [] ∵ suffices ! _ (ends-at 𝓤 H A told.ended stayed (told.clauses 𝓤 H A memory run) W ((tt, tt, tt, (fd, (r, tt)), (sint-vals w32 fd, (vals r, tt))), tt) (vint w32 n) n (tt, (tt, tt)) (tt, (tt, tt))) $
+      qed W [] ∵ suffices ! _
+      (ends-at 𝓤 H A told.ended stayed (told.clauses 𝓤 H A memory run) W
+      ((tt, tt, tt, (fd, (r, tt)), (sint-vals w32 fd, (vals r, tt))), tt) (vint w32 n) n (tt, (tt, tt)) (tt, (tt, tt))) $
       owned ! u32 (Is u32) (uint-makes 𝓤 H A W w32) n _ (refl, fits) $ nothing ! $
       owned ! T.the-row (Is T.the-row) (LL.makes T.the-type T′.the-plain 𝓤 H A) r _ is-r $ fjoin ! $
       owned ! i32 (Is i32) (sint-makes 𝓤 H A W w32) fd _ is-fd $ fjoin ! $ join ! $ nothing ! $ join ! $ frame ! $ done !
@@ -93,14 +97,19 @@ module _ {M : Type 1} (𝓤 : URA M) (H : Heap 𝓤) (A : Atoms 𝓤) (W : Given
     abbrev to-fstat : Fstat 𝓤 H A memory run .Ghost
     to-fstat = (((α ∷ [], tt), (fullShare, tt), tt, (fd, (to-r, tt)), (sint-vals w32 fd, (vptr l 0 ∷ [], tt))), tt)
 
-    goes-fstat : ent 𝓤 (sep 𝓤 (A .lft (α ∷ []) fullShare) (sem 𝓤 H A (MutRef (named 0) (α ∷ []) T.the-row .own to-r (vptr l 0 ∷ [])))) (Fstat 𝓤 H A memory run .pre to-fstat)
+    goes-fstat :
+        ent 𝓤 (sep 𝓤 (A .lft (α ∷ []) fullShare) (sem 𝓤 H A (MutRef (named 0) (α ∷ []) T.the-row .own to-r (vptr l 0 ∷ []))))
+        (Fstat 𝓤 H A memory run .pre to-fstat)
     goes-fstat =
         qed W (‵ (flft (α ∷ []) fullShare) ∷ ‵ (MutRef (named 0) (α ∷ []) T.the-row .own to-r (vptr l 0 ∷ [])) ∷ []) ∵ nothing ! $
         move ! (2 ∷ 0 ∷ []) $ fjoin ! $
-        owned ! i32 (Is i32) (sint-makes 𝓤 H A W w32) fd _ is-fd $ fjoin ! $ nothing ! $ move ! (2 ∷ 0 ∷ []) $ join ! $ join ! $ frame ! $ done !
+        owned ! i32 (Is i32) (sint-makes 𝓤 H A W w32) fd _ is-fd $ fjoin ! $ nothing ! $
+        move ! (2 ∷ 0 ∷ []) $ join ! $ join ! $ frame ! $ done !
 
   module _ (C : Calls 𝓤 H) (Λ : Loops 𝓤 H) (fm : FmC 𝓤 H (W .laws) C) (known : Triple 𝓤 (C #libc·fstat) (Fstat 𝓤 H A memory run)) where
-    walk : ent 𝓤 (onEntry 𝓤 H A told.signature tt tt (fd, (r, tt)) (sint-vals w32 fd, (vals r, tt))) (WpFn 𝓤 H C Λ code.function (only (sint-vals w32 fd) ∷ vals r) Post)
+    walk :
+        ent 𝓤 (onEntry 𝓤 H A told.signature tt tt (fd, (r, tt)) (sint-vals w32 fd, (vals r, tt)))
+        (WpFn 𝓤 H C Λ code.function (only (sint-vals w32 fd) ∷ vals r) Post)
     walk =
         qed W (‵ ftrue ∷ ‵ (owns (i32 ∷ T.the-row ∷ []) (fd, (r, tt)) (sint-vals w32 fd, (vals r, tt))) ∷ []) ∵ keep ! [] $
         enter ! C Λ code.function (only (sint-vals w32 fd) ∷ vals r) _ $
@@ -108,17 +117,28 @@ module _ {M : Type 1} (𝓤 : URA M) (H : Heap 𝓤) (A : Atoms 𝓤) (W : Given
         pass1 ! (init ! 10 refl (sint-lawful 𝓤 H A W w32 .typed fd _ is-fd .0)) $
         pass1 ! (init ! 8 refl (LL.lawful T.the-type T′.the-laws 𝓤 H A W .typed r _ is-r .0)) $ pass0 ! $
         -- [_6; …; _5; …; _4; …; _3; …; _2; …; _1; …; room for _0; …]
-        assigns ! (of-opd ! (load ! (from ! (stop !)) (look ! 8 refl))) (from ! (stop !)) (init ! 6 refl (LL.lawful T.the-type T′.the-laws 𝓤 H A W .typed r _ is-r .0)) $
+        assigns ! (of-opd ! (load ! (from ! (stop !)) (look ! 8 refl))) (from ! (stop !))
+        (init ! 6 refl (LL.lawful T.the-type T′.the-laws 𝓤 H A W .typed r _ is-r .0)) $
         assigns ! (addr ! (from ! (stop !))) (from ! (stop !)) (init ! 2 refl (tt, tt)) $
         -- r, which lies in _3, is lent
         owned ! T.the-row (Is T.the-row) (LL.makes T.the-type T′.the-plain 𝓤 H A) r _ is-r $ move ! (7 ∷ 0 ∷ []) $
-        use2 W (‵ (partAt T.the-row fullShare r l₃ 0)) (part-in 𝓤 H A W T.the-row refl fullShare r l₃ 0 _) $ lft-new ! tt (λ α. move ! (1 ∷ []) $
-        use1 W (later (some (λ (γ : GName). ‵ (MutRef (named 0) (α ∷ []) T.the-row .own (to-r α γ l₃) (vptr l₃ 0 ∷ [])) ⊛ ‵ (flent (α ∷ []) (Body (in-mem T.the-row) l₃ 0 γ))))) (lends-ref 𝓤 H A W T.the-row (named 0) (α ∷ []) r l₃ 0) $
+        use2 W (‵ (partAt T.the-row fullShare r l₃ 0)) (part-in 𝓤 H A W T.the-row refl fullShare r l₃ 0 _) $
+        lft-new ! tt (λ α. move ! (1 ∷ []) $
+        use1 W
+        (later (some (λ (γ : GName).
+        ‵ (MutRef (named 0) (α ∷ []) T.the-row .own (to-r α γ l₃) (vptr l₃ 0 ∷ []))
+        ⊛ ‵ (flent (α ∷ []) (Body (in-mem T.the-row) l₃ 0 γ)))))
+        (lends-ref 𝓤 H A W T.the-row (named 0) (α ∷ []) r l₃ 0) $
         await ! tt $ pick ! (λ γ. split ! $
         -- [the reference; the lender's part; the token; …]
         move ! (2 ∷ 0 ∷ []) $ use2 W (raw (Fstat 𝓤 H A memory run .pre (to-fstat α γ l₃))) (goes-fstat α γ l₃) $
-        calls-at ! fm (Fstat 𝓤 H A memory run) known (to-fstat α γ l₃) (and-then ! (load ! (from ! (stop !)) (look ! 11 refl)) (and-then ! (load ! (from ! (stop !)) (look ! 4 refl)) (no-more !))) (λ v.
-        use1 W (later (some (λ (k : ℤ). ((‵ (flft (α ∷ []) fullShare) ⊛ ‵ ftrue) ⊛ ‵ (i32 .own k (v ∷ []))) ⊛ raw (ensured 𝓤 H A fstat.ended (fstat.clauses 𝓤 H A memory run) (α ∷ [], tt) (fd, (to-r α γ l₃, tt)) tt k)))) (id⊢ 𝓤 _) $
+        calls-at ! fm (Fstat 𝓤 H A memory run) known (to-fstat α γ l₃)
+        (and-then ! (load ! (from ! (stop !)) (look ! 11 refl)) (and-then ! (load ! (from ! (stop !)) (look ! 4 refl)) (no-more !))) (λ v.
+        use1 W
+        (later (some (λ (k : ℤ).
+        ((‵ (flft (α ∷ []) fullShare) ⊛ ‵ ftrue) ⊛ ‵ (i32 .own k (v ∷ [])))
+        ⊛ raw (ensured 𝓤 H A fstat.ended (fstat.clauses 𝓤 H A memory run) (α ∷ [], tt) (fd, (to-r α γ l₃, tt)) tt k))))
+        (id⊢ 𝓤 _) $
         await ! tt $ pick ! (λ k.
         split ! $ move ! (1 ∷ []) $ drop ! $ split ! $ split ! $ move ! (1 ∷ []) $ drop ! $ move ! (1 ∷ []) $
         peeks ! i32 (Is i32) (shows 𝓤 H A i32) k (v ∷ []) (λ is-k. drop ! $
@@ -126,7 +146,8 @@ module _ {M : Type 1} (𝓤 : URA M) (H : Heap 𝓤) (A : Atoms 𝓤) (W : Given
         rewrite ! 6 (λ (us : List Val). ‵ (fat fullShare (tyInt w32) l₄ 0 (only us))) (sint-tells w32 k (v ∷ []) is-k) refl $
         -- [the token; the lender's part; …]: _3 is back, and holds some record s
         lft-end ! tt $ lent-back ! tt $ fpick ! (λ s. fsplit ! $ move ! (1 ∷ []) $ drop ! $
-        use1 W (some (λ (u : Val). ‵ (fat fullShare T′.mir l₃ 0 u) ⊛ ‵ (T.the-row .own s (u ∷ [])))) (part-out 𝓤 H A W T.the-row refl fullShare s l₃ 0) $
+        use1 W (some (λ (u : Val). ‵ (fat fullShare T′.mir l₃ 0 u) ⊛ ‵ (T.the-row .own s (u ∷ []))))
+        (part-out 𝓤 H A W T.the-row refl fullShare s l₃ 0) $
         pick ! (λ u. split ! $ move ! (1 ∷ []) $
         peeks ! T.the-row (Is T.the-row) (shows 𝓤 H A T.the-row) s (u ∷ []) (λ is-s. drop ! $
         rewrite ! 0 (λ (us : List Val). ‵ (fat fullShare T′.mir l₃ 0 (only us))) (LL.tells T.the-type T′.the-laws s (u ∷ []) is-s) refl $
@@ -141,7 +162,8 @@ module _ {M : Type 1} (𝓤 : URA M) (H : Heap 𝓤) (A : Atoms 𝓤) (W : Given
         free0 ! $
         by ! (exits 0 (lit< tt)))
         (λ _. skips ! $ exec ! C Λ _ body.t-6 (atRet _ Post) $
-        assigns ! (of-opd ! (load ! (from ! (fld ! refl (stop !))) (look-in ! 0 (sub ! 3 refl (whole !))))) (from ! (stop !)) (init ! 12 refl (tt, record { fits = mode-fits s u is-s })) $
+        assigns ! (of-opd ! (load ! (from ! (fld ! refl (stop !))) (look-in ! 0 (sub ! 3 refl (whole !))))) (from ! (stop !))
+        (init ! 12 refl (tt, record { fits = mode-fits s u is-s })) $
         returns ! (look ! 12 refl) $
         forget ! 0 refl $ forget ! 1 refl $ forget ! 12 refl $ move ! (12 ∷ 13 ∷ []) $ free1 ! $ move ! (10 ∷ 11 ∷ []) $ free1 ! $
         move ! (8 ∷ 9 ∷ []) $ free1 ! $ move ! (0 ∷ 7 ∷ []) $ free1 ! $ move ! (4 ∷ 5 ∷ []) $ free1 ! $ move ! (2 ∷ 3 ∷ []) $ free1 ! $ free1 ! $
@@ -150,15 +172,20 @@ module _ {M : Type 1} (𝓤 : URA M) (H : Heap 𝓤) (A : Atoms 𝓤) (W : Given
 
 module _ {M : Type 1} (𝓤 : URA M) (H : Heap 𝓤) (A : Atoms 𝓤) (W : Given 𝓤 H A) (memory : Memory → SProp 𝓤) (run : Routine → Fun 𝓤) where
   told-walks : (C : Calls 𝓤 H) (Λ : Loops 𝓤 H) → FmC 𝓤 H (W .laws) C
-      → Triple 𝓤 (C #libc·fstat) (Fstat 𝓤 H A memory run) → Walks 𝓤 H A told.ended stayed (WpFn 𝓤 H C Λ code.function) (told.clauses 𝓤 H A memory run)
-  told-walks C Λ fm known = walked 𝓤 H A told.ended stayed (told.clauses 𝓤 H A memory run) (WpFn 𝓤 H C Λ code.function) (λ κs. (sint-vals w32, (vals, tt))) (λ κs. (sint-tells w32, (LL.tells T.the-type T′.the-laws, tt)))
+      → Triple 𝓤 (C #libc·fstat) (Fstat 𝓤 H A memory run)
+      → Walks 𝓤 H A told.ended stayed (WpFn 𝓤 H C Λ code.function) (told.clauses 𝓤 H A memory run)
+  told-walks C Λ fm known =
+      walked 𝓤 H A told.ended stayed (told.clauses 𝓤 H A memory run) (WpFn 𝓤 H C Λ code.function)
+      (λ κs. (sint-vals w32, (vals, tt))) (λ κs. (sint-tells w32, (LL.tells T.the-type T′.the-laws, tt)))
       (λ κs qs bounds a g are. via 𝓤 _ (fst∗ 𝓤 _ (emp 𝓤)) (walk 𝓤 H A W memory run (a .0) (a .1 .0) (are .0) (are .1 .0) C Λ fm known))
 
-told-meets : {M : Type 1} (𝓤 : URA M) (H : Heap 𝓤) (A : Atoms 𝓤) (W : Given 𝓤 H A) (memory : Memory → SProp 𝓤) (run : Routine → Fun 𝓤) (𝓣 : Tables 𝓤 H)
-    → Triple 𝓤 (𝓣 .C #libc·fstat) (Fstat 𝓤 H A memory run) → Meets 𝓤 H A told.signature (WpFn 𝓤 H (𝓣 .C) (𝓣 .Λ) code.function) (told.spec 𝓤 H A memory run)
-told-meets 𝓤 H A W memory run 𝓣 known =
-    walk-meets 𝓤 H A told.ended stayed W (goes-none 𝓤 H A W 0 (λ _. i32) yes (λ κs x f. refl), (goes-none 𝓤 H A W 0 (λ _. T.the-row) yes (λ κs x f. refl), tt)) (told.clauses 𝓤 H A memory run)
-    (WpFn 𝓤 H (𝓣 .C) (𝓣 .Λ) code.function) (WpFn-mono 𝓤 H (W .laws) 𝓣 code.function) (told-walks 𝓤 H A W memory run (𝓣 .C) (𝓣 .Λ) (fmOf 𝓤 H (W .laws) 𝓣) known)
+  told-meets : (𝓣 : Tables 𝓤 H) → Triple 𝓤 (𝓣 .C #libc·fstat) (Fstat 𝓤 H A memory run)
+      → Meets 𝓤 H A told.signature (WpFn 𝓤 H (𝓣 .C) (𝓣 .Λ) code.function) (told.spec 𝓤 H A memory run)
+  told-meets 𝓣 known =
+      walk-meets 𝓤 H A told.ended stayed W
+      (goes-none 𝓤 H A W 0 (λ _. i32) yes (λ κs x f. refl), (goes-none 𝓤 H A W 0 (λ _. T.the-row) yes (λ κs x f. refl), tt))
+      (told.clauses 𝓤 H A memory run) (WpFn 𝓤 H (𝓣 .C) (𝓣 .Λ) code.function) (WpFn-mono 𝓤 H (W .laws) 𝓣 code.function)
+      (told-walks (𝓣 .C) (𝓣 .Λ) (fmOf 𝓤 H (W .laws) 𝓣) known)
 
 pub told-spec : {M : Type 1} → stated.statement M
 unfolding code.routine tablesOf

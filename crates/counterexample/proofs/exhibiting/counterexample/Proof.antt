@@ -5,37 +5,34 @@ use Rattle.counterexample.proofs.exhibiting.Laws.{short, HasCompared, h
 use Rattle.counterexample.proofs.exhibiting.counterexample.Statement.{statement}
 use Rattle.counterexample.proofs.exhibiting.counterexample.Tie as tie
 
--- the buffer is long enough; the entry from there
-abbrev entry : tie.Else1 → tie.Start
-entry c = c .before .before .before .before .before .before
-
--- what Compare left
-compared : (c : tie.After-compare) →
-    let a = entry (c .before .before .before) .args in
-    HasCompared (a .new .now) (a .old .now) (a .table1 .now) (a .table2 .now) (a .buffer .now) (c .compare .result) (c .compare .last .1 .1 .0) (c .compare .last .1 .1 .1 .0)
-compared c = has-compared (c .before .before .before .if1 .left) (c .compare .ensures)
+-- the buffer is short; the entry from there
+abbrev start : tie.Then1 → tie.Start
+start c = c .before .before .before .before .before .before
 
 returns : tie.Need-returns
-returns c =
-    let a = c .before .before .before .before .before .before .before .args in
-    short (a .new .now) (a .old .now) (a .table1 .now) (a .table2 .now) (a .buffer .now) (c .before .if1 .taken) (c .new .ensures)
+returns c = let a = start (c .before) .args in short (a .new .now) (a .old .now) (a .table1 .now) (a .table2 .now) (a .buffer .now) (c .before .if1 .taken) (c .new .ensures)
 
-write-witness-requires : tie.Need-write-witness-requires
-write-witness-requires c κs =
-    let i = c .before .before .before in
-    ready (compared (i .before .before .before .before .before .before)) (i .if2 .left)
+-- the buffer is long enough, and Compare has answered: what it left
+module _ (c : tie.After-compare) where
+  abbrev pub entry : tie.Start
+  entry = c .before .before .before .before .before .before .before .before .before
 
-cast-new : tie.Need-cast-new
-cast-new c =
-    let w = c .before .before in
-    let i = w .before .before .before .before in
-    omega (arith, written-fits (compared (i .before .before .before .before .before .before)) (i .if2 .left) (w .write-witness .ensures))
+  pub compared : let a = entry .args in let u = c .compare .last .1 .1 in
+      HasCompared (a .new .now) (a .old .now) (a .table1 .now) (a .table2 .now) (a .buffer .now) (c .compare .result) (u .0) (u .1 .0)
+  compared = has-compared (c .before .before .before .if1 .left) (c .compare .ensures)
 
-returns-3 : tie.Need-returns-3
-returns-3 c =
-    let w = c .before .before .before in
-    let i = w .before .before .before .before in
-    as-shown (compared (i .before .before .before .before .before .before)) (i .if2 .left) (w .write-witness .ensures) (c .new2 .ensures)
+-- Compare's answer, from the test of its code
+abbrev answered : tie.After-struct-known → tie.After-compare
+answered c = c .before .before .before .before .before
+
+-- the document is written
+module _ (c : tie.After-write-witness) where
+  abbrev pub not-carried : tie.Else2
+  not-carried = c .before .before .before .before
+
+  abbrev pub left : let a = entry (answered (not-carried .before)) .args in let u = answered (not-carried .before) .compare .last .1 .1 in
+      HasCompared (a .new .now) (a .old .now) (a .table1 .now) (a .table2 .now) (a .buffer .now) (answered (not-carried .before) .compare .result) (u .0) (u .1 .0)
+  left = compared (answered (not-carried .before))
 
 pub counterexample-spec : {M : Type 1} → statement M
 counterexample-spec = tie.close (tie.spec
@@ -44,11 +41,11 @@ counterexample-spec = tie.close (tie.spec
     (λ c κs. search needs)  -- compare-requires
     (λ c. search needs)  -- same-length
     (λ c. search needs)  -- same-length-2
-    (λ c. as-compared (compared (c .before .before .before .before .before .before)) (c .if2 .taken))  -- returns-2
-    write-witness-requires
-    cast-new
+    (λ c. as-compared (compared (answered (c .before))) (c .if2 .taken))  -- any other answer
+    (λ c κs. let i = c .before .before .before in ready (compared (answered (i .before))) (i .if2 .left))  -- write-witness-requires
+    (λ c. let w = c .before .before in omega (arith, written-fits (left w) (not-carried w .if2 .left) (w .write-witness .ensures)))  -- n as u32
     (λ c κs. search needs)  -- new-requires-2
     (λ c. search needs)  -- same-length-3
     (λ c. search needs)  -- same-length-4
     (λ c. search needs)  -- same-length-5
-    returns-3)
+    (λ c. let w = c .before .before .before in as-shown (left w) (not-carried w .if2 .left) (w .write-witness .ensures) (c .new2 .ensures)))

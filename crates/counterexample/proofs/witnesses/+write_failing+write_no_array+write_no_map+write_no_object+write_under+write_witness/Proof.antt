@@ -1,25 +1,25 @@
 -- The writers of the witness meet their contracts. The measure is four times the rows of the old definition, with up to five more by the order of the calls;
 -- for a field, those of the definition behind its name. Below each member's name stands what is known at its places.
 use Prim.Native.Nat.{ℕ, _+_, _*_, _≤_, _<_}
-use mathlib.Core.Path.{_≡_, refl}
+use mathlib.Core.Path.{refl}
 use mathlib.Core.List.{List, [], _∷_}
 use native.Mathlib.Omega.{arith}
 use borrow.Author.Needs.{needs}
+use borrow.Fn.Kind.{PK}
 use borrow.Fn.Kinds.{In}
 use borrow.Fn.PlainCycle.{Measures, is, falls, and}
 use lib.ListN.{length, set}
-use Rattle.model.specs.Witness.{sample, beyondNamed}
 use Rattle.syntax.specs.Holding.{word}
-use Rattle.definitions.specs.declared.types.Generic.{Generic}
 use Rattle.rows.proofs.Facts.{in-table, quotes-read}
-use Rattle.counterexample.specs.Writing.{WitnessTo}
-use Rattle.samples.proofs.Lent.{putBack, wrote, wrote-one, last-same}
-use Rattle.counterexample.proofs.witnesses.Laws.{newOf, witnessOf, sample-ready, sample-written, beyond-ready, beyond-written, to-name}
-use Rattle.counterexample.proofs.witnesses.Laws.{Around, around-fits, Opened, Filled, opened, inner-ready, filled, closed, array-sample}
-use Rattle.counterexample.proofs.witnesses.Laws.{array-around, mapOpening, map-sample, map-beyond, map-around, object-sample, Field}
-use Rattle.counterexample.proofs.witnesses.Laws.{field, member-ready, member-written, Named, Valued, Complete, name-ready, under-lent}
-use Rattle.counterexample.proofs.witnesses.Laws.{others-lent, behind-name, behind-value, behind-others, member-closed, under-ready}
-use Rattle.counterexample.proofs.witnesses.Laws.{under-witness, null-fits, under-null}
+use Rattle.samples.proofs.Lent.{putBack, wrote-one, last-same}
+use Rattle.counterexample.proofs.witnesses.Laws.{given-to, name-ready, name-written, Around, around-fits, around-less, Opened, Filled, opened, inner-ready}
+use Rattle.counterexample.proofs.witnesses.Laws.{filled, closed, no-array-ready, no-array-written, array-around, no-map-ready}
+use Rattle.counterexample.proofs.witnesses.Laws.{no-map-written, map-object-ready, map-object-written, map-fits, map-new, map-old, map-less, map-within}
+use Rattle.counterexample.proofs.witnesses.Laws.{map-inner, map-filled, map-closes, map-same, map-closed, no-name-ready}
+use Rattle.counterexample.proofs.witnesses.Laws.{no-name-written, member-less, member-ready, member-written}
+use Rattle.counterexample.proofs.witnesses.Members.{Named, Valued, Complete}
+use Rattle.counterexample.proofs.witnesses.Members.{member-name-ready, under-lent, others-lent, behind-name, behind-value, behind-others}
+use Rattle.counterexample.proofs.witnesses.Members.{member-closed, under-fits, under-ready, under-witness, null-fits, under-null}
 use Rattle.counterexample.proofs.witnesses.write_failing.Reads as write-failing
 use Rattle.counterexample.proofs.witnesses.write_failing.Kinds as write-failing-kinds
 use Rattle.counterexample.proofs.witnesses.+write_failing+write_no_array+write_no_map+write_no_object+write_under+write_witness.Lts-write_failing as write-failing-lts
@@ -46,6 +46,7 @@ use Rattle.samples.proofs.write_sample.Reads as write-sample-reads
 use Rattle.counterexample.proofs.witnesses.failing_name.Reads as failing-name-reads
 use Rattle.comparison.proofs.find_under.Reads as find-under-reads
 use Rattle.definitions.proofs.generic_at.Reads as generic-at-reads
+use Rattle.rows.proofs.between.Reads as between-reads
 use Rattle.rows.proofs.row_at.Reads as row-at-reads
 use Rattle.counterexample.proofs.witnesses.+write_failing+write_no_array+write_no_map+write_no_object+write_under+write_witness.{
   statement,
@@ -72,41 +73,39 @@ abbrev μ-write-under : Measures 5 write-under-kinds.ps ℕ
 abbrev μ-write-witness : Measures 5 write-witness-kinds.ps ℕ
 μ-write-witness κs a = 4 * word (a .1 .1 .1 .0 .now) (a .1 .1 .1 .1 .1 .0) 4 + 3
 
+-- what a member asks where its measure is t, and where it is below t
+abbrev at : (n : ℕ) (ps : List (PK n)) → Measures n ps ℕ → In n ps → ℕ → In n ps
+at n ps μ pre t = and n ps (is n ps μ t) pre
+
+abbrev below : (n : ℕ) (ps : List (PK n)) → Measures n ps ℕ → In n ps → ℕ → In n ps
+below n ps μ pre t = and n ps (falls n ps _<_ μ t) pre
+
 abbrev write-failing-at : ℕ → In 5 write-failing-kinds.ps
-write-failing-at t = and 5 write-failing-kinds.ps (is 5 write-failing-kinds.ps μ-write-failing t) write-failing.Pre
+write-failing-at = at 5 write-failing-kinds.ps μ-write-failing write-failing.Pre
 
 abbrev write-failing-below : ℕ → In 5 write-failing-kinds.ps
-write-failing-below t = and 5 write-failing-kinds.ps (falls 5 write-failing-kinds.ps _<_ μ-write-failing t) write-failing.Pre
+write-failing-below = below 5 write-failing-kinds.ps μ-write-failing write-failing.Pre
 
 abbrev write-no-array-at : ℕ → In 5 write-no-array-kinds.ps
-write-no-array-at t = and 5 write-no-array-kinds.ps (is 5 write-no-array-kinds.ps μ-write-no-array t) write-no-array.Pre
+write-no-array-at = at 5 write-no-array-kinds.ps μ-write-no-array write-no-array.Pre
 
 abbrev write-no-array-below : ℕ → In 5 write-no-array-kinds.ps
-write-no-array-below t = and 5 write-no-array-kinds.ps (falls 5 write-no-array-kinds.ps _<_ μ-write-no-array t) write-no-array.Pre
+write-no-array-below = below 5 write-no-array-kinds.ps μ-write-no-array write-no-array.Pre
 
 abbrev write-no-map-at : ℕ → In 5 write-no-map-kinds.ps
-write-no-map-at t = and 5 write-no-map-kinds.ps (is 5 write-no-map-kinds.ps μ-write-no-map t) write-no-map.Pre
+write-no-map-at = at 5 write-no-map-kinds.ps μ-write-no-map write-no-map.Pre
 
 abbrev write-no-map-below : ℕ → In 5 write-no-map-kinds.ps
-write-no-map-below t = and 5 write-no-map-kinds.ps (falls 5 write-no-map-kinds.ps _<_ μ-write-no-map t) write-no-map.Pre
-
-abbrev write-no-object-at : ℕ → In 5 write-no-object-kinds.ps
-write-no-object-at t = and 5 write-no-object-kinds.ps (is 5 write-no-object-kinds.ps μ-write-no-object t) write-no-object.Pre
+write-no-map-below = below 5 write-no-map-kinds.ps μ-write-no-map write-no-map.Pre
 
 abbrev write-no-object-below : ℕ → In 5 write-no-object-kinds.ps
-write-no-object-below t = and 5 write-no-object-kinds.ps (falls 5 write-no-object-kinds.ps _<_ μ-write-no-object t) write-no-object.Pre
-
-abbrev write-under-at : ℕ → In 5 write-under-kinds.ps
-write-under-at t = and 5 write-under-kinds.ps (is 5 write-under-kinds.ps μ-write-under t) write-under.Pre
+write-no-object-below = below 5 write-no-object-kinds.ps μ-write-no-object write-no-object.Pre
 
 abbrev write-under-below : ℕ → In 5 write-under-kinds.ps
-write-under-below t = and 5 write-under-kinds.ps (falls 5 write-under-kinds.ps _<_ μ-write-under t) write-under.Pre
-
-abbrev write-witness-at : ℕ → In 5 write-witness-kinds.ps
-write-witness-at t = and 5 write-witness-kinds.ps (is 5 write-witness-kinds.ps μ-write-witness t) write-witness.Pre
+write-under-below = below 5 write-under-kinds.ps μ-write-under write-under.Pre
 
 abbrev write-witness-below : ℕ → In 5 write-witness-kinds.ps
-write-witness-below t = and 5 write-witness-kinds.ps (falls 5 write-witness-kinds.ps _<_ μ-write-witness t) write-witness.Pre
+write-witness-below = below 5 write-witness-kinds.ps μ-write-witness write-witness.Pre
 
 -- ---- write_failing
 
@@ -114,6 +113,8 @@ abbrev write-failing-claims : ℕ → write-failing-lts.Claims
 write-failing-claims t = (
   row-at-reads.Asked,
   row-at-reads.Learnt,
+  between-reads.Asked,
+  between-reads.Learnt,
   find-under-reads.Asked,
   find-under-reads.Learnt,
   write-name-reads.Asked,
@@ -136,13 +137,17 @@ module _ (t : ℕ) where
   -- the name is written
   module _ (c : write-failing-lts.After-write-name (write-failing-claims t) (write-failing-at t) write-failing.Post) where
     abbrev pub name-read : write-failing-lts.After-row-at (write-failing-claims t) (write-failing-at t) write-failing.Post
-    name-read = c .before .before .before .before .before .before .before
+    name-read = c .before .before .before .before .before
 
     abbrev pub named-start : write-failing-lts.Start (write-failing-claims t) (write-failing-at t) write-failing.Post
     named-start = failing-start name-read
 
     abbrev pub named-out : List ℕ
     named-out = c .write-name .last .1 .1 .1 .0
+
+    -- what stands between its quotes
+    abbrev pub key-read : write-failing-lts.After-between (write-failing-claims t) (write-failing-at t) write-failing.Post
+    key-read = c .before .before .before .before
 
     pub named : Named (named-start .pre .1) (named-start .args .out .now) (c .write-name .result) named-out
     named = behind-name (named-start .pre .1) (name-read .row-at .ensures) (c .write-name .ensures) refl
@@ -167,7 +172,7 @@ module _ (t : ℕ) where
   -- the other members are written
   module _ (c : write-failing-lts.After-write-others (write-failing-claims t) (write-failing-at t) write-failing.Post) where
     abbrev pub value-done : write-failing-lts.After-write-under (write-failing-claims t) (write-failing-at t) write-failing.Post
-    value-done = c .before .before .before .before .before
+    value-done = c .before .before .before .before
 
     abbrev pub complete-start : write-failing-lts.Start (write-failing-claims t) (write-failing-at t) write-failing.Post
     complete-start = valued-start value-done
@@ -180,25 +185,33 @@ module _ (t : ℕ) where
 
     pub complete : Complete (complete-start .pre .1) (complete-start .args .out .now) complete-count complete-out
     complete =
-        let q = name-read (name-done value-done) .row-at .ensures in
-        behind-others (complete-start .pre .1) q (valued value-done) (c .write-others .ensures)
+        let d = name-done value-done in
+        behind-others (complete-start .pre .1) (name-read d .row-at .ensures) (key-read d .between .ensures) (valued value-done) (c .write-others .ensures)
 
   under-requires : write-failing-lts.Need-write-under-requires (write-failing-claims t) (write-failing-at t) write-failing.Post
   under-requires c κs =
       let d = c .before .before .before in
       let p = named-start d .pre in
-      let f = c .before .before .before .before .before .before .find-under .ensures in
-      (omega (arith, p .0), under-lent (p .1) (name-read d .row-at .ensures) (named d) f)
+      let f = d .before .before .before .find-under .ensures in
+      (omega (arith, p .0), under-lent (p .1) (name-read d .row-at .ensures) (key-read d .between .ensures) (named d) f)
 
   others-requires : write-failing-lts.Need-write-others-requires (write-failing-claims t) (write-failing-at t) write-failing.Post
   others-requires c κs =
-      let d = c .before .before .before .before in
-      others-lent (valued-start d .pre .1) (name-read (name-done d) .row-at .ensures) (valued d)
+      let d = c .before .before .before in
+      let n = name-done d in
+      others-lent (valued-start d .pre .1) (name-read n .row-at .ensures) (key-read n .between .ensures) (valued d)
 
 -- ---- write_no_array
 
 abbrev write-no-array-claims : ℕ → write-no-array-lts.Claims
-write-no-array-claims t = (generic-at-reads.Asked, generic-at-reads.Learnt, write-witness-below t, write-witness.Post, write-sample-reads.Asked, write-sample-reads.Learnt)
+write-no-array-claims t = (
+  generic-at-reads.Asked,
+  generic-at-reads.Learnt,
+  write-witness-below t,
+  write-witness.Post,
+  write-sample-reads.Asked,
+  write-sample-reads.Learnt,
+)
 
 module _ (t : ℕ) where
   -- the entry, from where the new one's generic type was read
@@ -228,11 +241,6 @@ module _ (t : ℕ) where
     pub element-filled : Filled (element arrays-told) (arrays-start arrays-told .args .out .now) (1 + c .write-witness .result) element-out
     element-filled = filled (element arrays-told) (bracket arrays-told) (c .write-witness .ensures)
 
-  -- the new one is not
-  not-array : (c : write-no-array-lts.At-match-keys2 (write-no-array-claims t) (write-no-array-at t) write-no-array.Post)
-      → let p = array-start (c .before) .pre .1 .given .pair in witnessOf p ≡ sample (newOf p)
-  not-array c = array-sample (c .before .generic-at .ensures) (array-start (c .before) .pre .1) (c .match .keys2)
-
 -- ---- write_no_map
 
 abbrev write-no-map-claims : ℕ → write-no-map-lts.Claims
@@ -249,95 +257,42 @@ write-no-map-claims t = (
   write-sample-reads.Learnt,
 )
 
-module _ (t : ℕ) where
-  -- the entry, from where the new one's generic type was read
-  abbrev map-start : write-no-map-lts.After-generic-at (write-no-map-claims t) (write-no-map-at t) write-no-map.Post
-      → write-no-map-lts.Start (write-no-map-claims t) (write-no-map-at t) write-no-map.Post
-  map-start c = c .before .before .before .before .before .before
+-- the value is written, and the brace behind it fits
+module _ (t : ℕ) (c : write-no-map-lts.After-write-witness (write-no-map-claims t) (write-no-map-at t) write-no-map.Post) where
+  abbrev map-opening : write-no-map-lts.After-write-bytes (write-no-map-claims t) (write-no-map-at t) write-no-map.Post
+  map-opening = c .before .before .before .before
 
-  -- both are of maps
-  module _ (c : write-no-map-lts.After-enum-told (write-no-map-claims t) (write-no-map-at t) write-no-map.Post) where
-    abbrev pub maps-start : write-no-map-lts.Start (write-no-map-claims t) (write-no-map-at t) write-no-map.Post
-    maps-start = map-start (c .before .before)
+  abbrev both-maps : write-no-map-lts.After-enum-told (write-no-map-claims t) (write-no-map-at t) write-no-map.Post
+  both-maps = map-opening .before .before .before
 
-    pub member : Around (maps-start .pre .1 .given) mapOpening 0x7D
-    member = map-around (c .before .before .generic-at .ensures) (maps-start .pre .1) (c .enum-told .given .1)
+  abbrev map-read : write-no-map-lts.After-generic-at (write-no-map-claims t) (write-no-map-at t) write-no-map.Post
+  map-read = both-maps .before .before
 
-  -- the brace and the name are written
-  module _ (c : write-no-map-lts.After-write-bytes (write-no-map-claims t) (write-no-map-at t) write-no-map.Post) where
-    abbrev pub maps-told : write-no-map-lts.After-enum-told (write-no-map-claims t) (write-no-map-at t) write-no-map.Post
-    maps-told = c .before .before .before
+  abbrev pub map-start : write-no-map-lts.Start (write-no-map-claims t) (write-no-map-at t) write-no-map.Post
+  map-start = map-read .before .before .before .before .before .before
 
-    abbrev pub member-out : List ℕ
-    member-out = c .write-bytes .last .1 .0
-
-    pub brace : Opened (member maps-told) (maps-start maps-told .args .out .now) (c .write-bytes .result) member-out
-    brace = opened (member maps-told) (wrote (c .write-bytes .ensures)) refl
-
-  -- the value is written
-  module _ (c : write-no-map-lts.After-write-witness (write-no-map-claims t) (write-no-map-at t) write-no-map.Post) where
-    abbrev pub brace-done : write-no-map-lts.After-write-bytes (write-no-map-claims t) (write-no-map-at t) write-no-map.Post
-    brace-done = c .before .before .before .before
-
-    abbrev pub maps-entry : write-no-map-lts.Start (write-no-map-claims t) (write-no-map-at t) write-no-map.Post
-    maps-entry = maps-start (maps-told brace-done)
-
-    abbrev pub member-count : ℕ
-    member-count = brace-done .write-bytes .result + c .write-witness .result
-
-    abbrev pub member-end : List ℕ
-    member-end = putBack (brace-done .write-bytes .result) (member-out brace-done) (c .write-witness .last .1 .1 .1 .1 .1 .1 .0)
-
-    pub member-filled : Filled (member (maps-told brace-done)) (maps-entry .args .out .now) member-count member-end
-    member-filled = filled (member (maps-told brace-done)) (brace brace-done) (c .write-witness .ensures)
-
-  member-requires : write-no-map-lts.Need-write-witness-requires (write-no-map-claims t) (write-no-map-at t) write-no-map.Post
-  member-requires c κs =
-      let d = c .before .before .before in
-      let p = member (maps-told d) in
-      (omega (arith, p .less, maps-start (maps-told d) .pre .0), inner-ready p (brace d))
-
-  -- the new one is an Object
-  map-object : (c : write-no-map-lts.After-enum-told2 (write-no-map-claims t) (write-no-map-at t) write-no-map.Post)
-      → let p = map-start (c .before .before) .pre .1 .given .pair in witnessOf p ≡ beyondNamed (newOf p)
-  map-object c = map-beyond (c .before .before .generic-at .ensures) (map-start (c .before .before) .pre .1) (c .enum-told2 .given .1)
-
-  -- it is not of objects
-  not-map : (c : write-no-map-lts.At-match-keys3 (write-no-map-claims t) (write-no-map-at t) write-no-map.Post)
-      → let p = map-start (c .before) .pre .1 .given .pair in witnessOf p ≡ sample (newOf p)
-  not-map c = map-sample (c .before .generic-at .ensures) (map-start (c .before) .pre .1) (c .match .keys3)
+  pub map-added : map-opening .write-bytes .result + c .write-witness .result + 1 ≤ length (map-start .args .out .now)
+  map-added =
+      let w = map-opening .write-bytes in
+      map-filled (map-read .generic-at .ensures) (both-maps .enum-told .given .1) (w .result) (map-start .args .out .now) (w .last .1 .0)
+      (w .ensures) (map-start .pre .1) (c .write-witness .ensures) .room
 
 -- ---- write_no_object
 
 abbrev write-no-object-claims : ℕ → write-no-object-lts.Claims
-write-no-object-claims t = (failing-name-reads.Asked, failing-name-reads.Learnt, write-sample-reads.Asked, write-sample-reads.Learnt, write-failing-below t, write-failing.Post)
-
-module _ (t : ℕ) where
-  -- the entry, from where the failing name was sought
-  abbrev object-start : write-no-object-lts.After-failing-name (write-no-object-claims t) (write-no-object-at t) write-no-object.Post
-      → write-no-object-lts.Start (write-no-object-claims t) (write-no-object-at t) write-no-object.Post
-  object-start c = c .before .before .before .before .before .before
-
-  -- there is none
-  no-name : (c : write-no-object-lts.Then1 (write-no-object-claims t) (write-no-object-at t) write-no-object.Post)
-      → let p = object-start (c .before) .pre .1 .given .pair in witnessOf p ≡ sample (newOf p)
-  no-name c = object-sample (object-start (c .before) .pre .1) (c .before .failing-name .ensures) (c .if1 .taken)
-
-  -- there is one
-  failing-field : (c : write-no-object-lts.Else1 (write-no-object-claims t) (write-no-object-at t) write-no-object.Post)
-      → Field (object-start (c .before) .pre .1) (c .before .failing-name .ensures)
-  failing-field c = field (object-start (c .before) .pre .1) (c .before .failing-name .ensures) (c .if1 .left)
+write-no-object-claims t = (
+  failing-name-reads.Asked,
+  failing-name-reads.Learnt,
+  write-sample-reads.Asked,
+  write-sample-reads.Learnt,
+  write-failing-below t,
+  write-failing.Post,
+)
 
 -- ---- write_under
 
 abbrev write-under-claims : ℕ → write-under-lts.Claims
 write-under-claims t = (write-witness-below t, write-witness.Post, write-bytes-reads.Asked, write-bytes-reads.Learnt)
-
-module _ (t : ℕ) where
-  -- the entry, from the test
-  abbrev under-start : write-under-lts.After-slice-known (write-under-claims t) (write-under-at t) write-under.Post
-      → write-under-lts.Start (write-under-claims t) (write-under-at t) write-under.Post
-  under-start c = c .before .before .before .before .before
 
 -- ---- write_witness
 
@@ -355,58 +310,33 @@ write-witness-claims t = (
   write-beyond-reads.Learnt,
 )
 
-module _ (t : ℕ) where
-  -- the old one's generic type was read
-  module _ (c : write-witness-lts.After-generic-at (write-witness-claims t) (write-witness-at t) write-witness.Post) where
-    abbrev pub witness-start : write-witness-lts.Start (write-witness-claims t) (write-witness-at t) write-witness.Post
-    witness-start = c .before .before .before .before .before .before
-
-    abbrev pub given-to : {g : Generic} → c .generic-at .result ≡ g →
-        let a = witness-start .args in
-        WitnessTo (a .new .now) (a .old .now) (a .rows1 .now) (a .rows2 .now) (a .a) (a .b) (length (a .out .now)) g
-    given-to e = record { given = witness-start .pre .1; is = rw e at (c .generic-at .ensures) }
-
-  -- it is a type name
-  is-name : (c : write-witness-lts.After-enum-told4 (write-witness-claims t) (write-witness-at t) write-witness.Post)
-      → let p = witness-start (c .before .before) .pre .1 .pair in witnessOf p ≡ beyondNamed (newOf p)
-  is-name c = to-name (given-to (c .before .before) (c .enum-told4 .given .1))
-
 pub +write-failing+write-no-array+write-no-map+write-no-object+write-under+write-witness-spec : {M : Type 1} → statement M
 +write-failing+write-no-array+write-no-map+write-no-object+write-under+write-witness-spec =
     close μ-write-failing μ-write-no-array μ-write-no-map μ-write-no-object μ-write-under μ-write-witness
     -- ---- write-failing
     (λ t. write-failing-lts.spec (write-failing-claims t) (write-failing-at t) write-failing.Post
-    (λ c κs. c .before .before .before .before .before .pre .1 .pair .name)  -- row-at-requires
-    (λ c. search needs)  -- cast-from
-    (λ c. omega (arith, quotes t (c .before), failing-start t (c .before) .good))  -- add-from
-    (λ c. search needs)  -- cast-to
-    (λ c. omega (arith, quotes t (c .before .before)))  -- sub-to
-    (λ c. omega (arith, quotes t (c .before .before)))  -- sub-find-under
-    (λ c. omega (arith, quotes t (c .before .before)))  -- part-find-under-start
-    (λ c. omega (arith, quotes t (c .before .before)))  -- part-find-under-end
-    (λ c κs. failing-start t (c .before .before .before) .pre .1 .pair .new)  -- find-under-requires
-    (λ c. search needs)  -- cast-write-name
-    (λ c κs. let d = c .before .before .before .before .before .before in name-ready (failing-start t d .pre .1) (d .row-at .ensures))  -- write-name-requires
-    (λ c. let d = c .before .before in omega (arith, named t d .room, named t d .same))  -- sub-write-under
-    (λ c. let d = c .before .before in omega (arith, named t d .room, named t d .same))  -- part-write-under-start
-    (λ c. search needs)  -- part-write-under-end
+    (λ c κs. search needs)  -- row-at-requires
+    (λ c κs. quotes t c)  -- between-requires
+    (λ c κs. search needs)  -- find-under-requires
+    (λ c. search needs)  -- name.first as usize
+    (λ c κs. search member-name-ready)  -- write-name-requires
+    (λ c. let d = c .before .before in omega (arith, named t d .room, named t d .same))  -- out[n..]
+    (λ c. let d = c .before .before in omega (arith, named t d .room, named t d .same))
+    (λ c. search needs)
     (under-requires t)
-    (λ c. let d = c .before .before in omega (arith, valued t d .room, valued-start t d .good))  -- add-n
-    (λ c. omega (arith, quotes t (name-read t (name-done t (c .before .before)))))  -- sub-write-others
-    (λ c. omega (arith, quotes t (name-read t (name-done t (c .before .before)))))  -- part-write-others-start
-    (λ c. omega (arith, quotes t (name-read t (name-done t (c .before .before)))))  -- part-write-others-end
-    (λ c. let d = c .before .before .before in omega (arith, valued t d .room, valued t d .same))  -- sub-write-others-2
-    (λ c. let d = c .before .before .before in omega (arith, valued t d .room, valued t d .same))  -- part-write-others-start-2
-    (λ c. search needs)  -- part-write-others-end-2
+    (λ c. let d = c .before .before in omega (arith, valued t d .room, valued-start t d .good))  -- n + ..
+    (λ c. let d = c .before .before in omega (arith, valued t d .room, valued t d .same))  -- out[n..]
+    (λ c. let d = c .before .before in omega (arith, valued t d .room, valued t d .same))
+    (λ c. search needs)
     (others-requires t)
-    (λ c. let d = c .before .before in omega (arith, complete t d .room, complete-start t d .good))  -- add-n-2
-    (λ c. let d = c .before .before in omega (arith, complete t d .room, complete t d .same))  -- slice-write-out
-    (λ c. let d = c .before .before in omega (arith, complete t d .room, complete-start t d .good))  -- add-result
+    (λ c. let d = c .before .before in omega (arith, complete t d .room, complete-start t d .good))  -- n + ..
+    (λ c. let d = c .before .before in omega (arith, complete t d .room, complete t d .same))  -- out[n]
+    (λ c. let d = c .before .before in omega (arith, complete t d .room, complete-start t d .good))  -- n + 1
     (λ c. let d = c .before .before in last-same (complete t d) 0x7D)  -- same-length
     (λ c. let d = c .before .before in member-closed (complete-start t d .pre .1) (complete t d)))  -- returns
     -- ---- write-no-array
     (λ t. write-no-array-lts.spec (write-no-array-claims t) (write-no-array-at t) write-no-array.Post
-    (λ c κs. c .before .before .before .before .before .pre .1 .given .pair .new)  -- generic-at-requires
+    (λ c κs. search needs)  -- generic-at-requires
     (λ c. search needs)  -- enum-told
     (λ c. omega (arith, bracket t c .room))  -- slice-write-out
     (λ c. omega (arith, in-table (element t c .inner .new .row) .here, arrays-start t c .good))  -- add-write-witness
@@ -414,74 +344,74 @@ pub +write-failing+write-no-array+write-no-map+write-no-object+write-under+write
     (λ c. omega (arith, bracket t c .room, bracket t c .same))  -- sub-write-witness
     (λ c. omega (arith, bracket t c .room, bracket t c .same))  -- part-write-witness-start
     (λ c. search needs)  -- part-write-witness-end
-    (λ c κs. let d = c .before in (omega (arith, element t d .less, arrays-start t d .pre .0), inner-ready (element t d) (bracket t d)))  -- write-witness-requires
+    (λ c κs. let d = c .before in (around-less (element t d) (arrays-start t d .pre .0), inner-ready (element t d) (bracket t d)))  -- write-witness-requires
     (λ c. let d = c .before .before in omega (arith, element-filled t d .room, arrays-start t (arrays-told t d) .good))  -- add-n
     (λ c. let d = c .before .before in omega (arith, element-filled t d .room, element-filled t d .same))  -- slice-write-out-2
     (λ c. let d = c .before .before in omega (arith, element-filled t d .room, arrays-start t (arrays-told t d) .good))  -- add-result
-    (λ c κs. let d = c .before in sample-ready (array-start t (d .before) .pre .1 .given) (not-array t d))  -- write-sample-requires
+    (λ c κs. search no-array-ready)  -- write-sample-requires
     (λ c. let d = c .before .before in last-same (element-filled t d) 0x5D)  -- same-length
     (λ c. let d = c .before .before in closed (element t (arrays-told t d)) (element-filled t d))  -- returns
     (λ c. search needs)  -- same-length-2
-    (λ c. let d = c .before .before .before .before in sample-written (array-start t (d .before) .pre .1 .given) (not-array t d) (c .before .before .write-sample .ensures)))  -- returns-2
+    (λ c. search no-array-written))  -- returns-2
     -- ---- write-no-map
     (λ t. write-no-map-lts.spec (write-no-map-claims t) (write-no-map-at t) write-no-map.Post
-    (λ c κs. c .before .before .before .before .before .pre .1 .given .pair .new)  -- generic-at-requires
-    (λ c. search needs)  -- enum-told
-    (λ c. search needs)  -- slice-aggregate-write-bytes
-    (λ c κs. omega (arith, around-fits (member t (c .before .before))))  -- write-bytes-requires
-    (λ c. let d = maps-told t (c .before .before) in omega (arith, in-table (member t d .inner .new .row) .here, maps-start t d .good))  -- add-write-witness
-    (λ c. let d = maps-told t (c .before .before) in omega (arith, in-table (member t d .inner .old .row) .here, maps-start t d .good))  -- add-write-witness-2
-    (λ c. let d = c .before .before in omega (arith, brace t d .room, brace t d .same))  -- sub-write-witness
-    (λ c. let d = c .before .before in omega (arith, brace t d .room, brace t d .same))  -- part-write-witness-start
-    (λ c. search needs)  -- part-write-witness-end
-    (member-requires t)
-    (λ c. let d = c .before .before in omega (arith, member-filled t d .room, maps-entry t d .good))  -- add-n
-    (λ c. let d = c .before .before in omega (arith, member-filled t d .room, member-filled t d .same))  -- slice-write-out
-    (λ c. let d = c .before .before in omega (arith, member-filled t d .room, maps-entry t d .good))  -- add-result
-    (λ c. search needs)  -- enum-told-2
-    (λ c κs. let d = c .before in beyond-ready (map-start t (d .before .before) .pre .1 .given) (map-object t d))  -- write-beyond-requires
-    (λ c κs. let d = c .before in sample-ready (map-start t (d .before) .pre .1 .given) (not-map t d))  -- write-sample-requires
-    (λ c. let d = c .before .before in last-same (member-filled t d) 0x7D)  -- same-length
-    (λ c. let d = c .before .before in closed (member t (maps-told t (brace-done t d))) (member-filled t d))  -- returns
-    (λ c. search needs)  -- same-length-2
-    (λ c. let d = c .before .before .before .before in beyond-written (map-start t (d .before .before) .pre .1 .given) (map-object t d) (c .before .before .write-beyond .ensures))  -- returns-2
-    (λ c. search needs)  -- same-length-3
-    (λ c. let d = c .before .before .before .before in sample-written (map-start t (d .before) .pre .1 .given) (not-map t d) (c .before .before .write-sample .ensures)))  -- returns-3
+    (λ c κs. search needs)  -- generic-at-requires
+    (λ c. search needs)  -- Map
+    (λ c. search needs)
+    (λ c κs. search map-fits)  -- write-bytes-requires
+    (λ c. search map-new)  -- a + 2
+    (λ c. search map-old)  -- b + 2
+    (λ c. search map-within)  -- out[n..]
+    (λ c. search map-within)
+    (λ c. search needs)
+    (λ c κs. (search map-less, search map-inner))  -- write-witness-requires
+    (λ c. omega (arith, map-added t (c .before .before), map-start t (c .before .before) .good))  -- n + ..
+    (λ c. search map-closes)  -- out[n]
+    (λ c. omega (arith, map-added t (c .before .before), map-start t (c .before .before) .good))  -- n + 1
+    (λ c. search needs)  -- Object
+    (λ c κs. search map-object-ready)
+    (λ c κs. search no-map-ready)  -- any other
+    (λ c. search map-same)  -- Map
+    (λ c. search map-closed)
+    (λ c. search needs)  -- Object
+    (λ c. search map-object-written)
+    (λ c. search needs)  -- any other
+    (λ c. search no-map-written))
     -- ---- write-no-object
-    (λ t. write-no-object-lts.spec (write-no-object-claims t) (write-no-object-at t) write-no-object.Post
-    (λ c κs. let p = c .before .before .before .before .before .pre .1 in record { given = p .given .pair; is = p .is })  -- failing-name-requires
-    (λ c κs. let d = c .before in sample-ready (object-start t (d .before) .pre .1 .given) (no-name t d))  -- write-sample-requires
+    (λ t. write-no-object-lts.spec (write-no-object-claims t) (at 5 write-no-object-kinds.ps μ-write-no-object write-no-object.Pre t) write-no-object.Post
+    (λ c κs. search needs)  -- failing-name-requires
+    (λ c κs. search no-name-ready)  -- write-sample-requires
     (λ c. search needs)  -- same-length
-    (λ c. let d = c .before .before .before .before in sample-written (object-start t (d .before) .pre .1 .given) (no-name t d) (c .before .before .write-sample .ensures))  -- returns
-    (λ c κs. let f = failing-field t (c .before) in (omega (arith, f .less, object-start t (c .before .before) .pre .0), member-ready f))  -- write-failing-requires
+    (λ c. search no-name-written)
+    (λ c κs. (search member-less, search member-ready))  -- write-failing-requires
     (λ c. search needs)  -- same-length-2
-    (λ c. member-written (failing-field t (c .before .before .before .before)) (c .before .before .write-failing .ensures)))  -- returns-2
+    (λ c. search member-written))
     -- ---- write-under
-    (λ t. write-under-lts.spec (write-under-claims t) (write-under-at t) write-under.Post
-    (λ c. omega (arith, in-table (under-start t (c .before) .pre .1 .pair .old .row) .here, under-start t (c .before) .good))  -- add-write-witness
-    (λ c κs. let p = under-start t (c .before .before) .pre in (omega (arith, p .0), under-ready (p .1) (c .before .if1 .taken)))  -- write-witness-requires
+    (λ t. write-under-lts.spec (write-under-claims t) (at 5 write-under-kinds.ps μ-write-under write-under.Pre t) write-under.Post
+    (λ c. search under-fits)  -- row + 1
+    (λ c κs. (omega arith, search under-ready))  -- write-witness-requires
     (λ c. search needs)  -- same-length
-    (λ c. let d = c .before .before .before .before in under-witness (under-start t (d .before) .pre .1) (d .if1 .taken) (c .before .before .write-witness .ensures))  -- returns
-    (λ c. search needs)  -- slice-aggregate-write-bytes
-    (λ c κs. let d = c .before .before in null-fits (under-start t (d .before) .pre .1) (d .if1 .left))  -- write-bytes-requires
+    (λ c. search under-witness)
+    (λ c. search needs)  -- b"null"
+    (λ c κs. search null-fits)  -- write-bytes-requires
     (λ c. search needs)  -- same-length-2
-    (λ c. let d = c .before .before .before .before .before in under-null (under-start t (d .before) .pre .1) (d .if1 .left) (c .before .before .write-bytes .ensures)))  -- returns-2
+    (λ c. search under-null))
     -- ---- write-witness
-    (λ t. write-witness-lts.spec (write-witness-claims t) (write-witness-at t) write-witness.Post
-    (λ c κs. c .before .before .before .before .before .pre .1 .pair .old)  -- generic-at-requires
-    (λ c. search needs)  -- enum-told
-    (λ c κs. let d = c .before .before .before in (omega (arith, witness-start t d .pre .0), given-to t d (c .before .enum-told .given .1)))  -- write-no-array-requires
-    (λ c. search needs)  -- enum-told-2
-    (λ c κs. let d = c .before .before .before in (omega (arith, witness-start t d .pre .0), given-to t d (c .before .enum-told2 .given .1)))  -- write-no-map-requires
-    (λ c. search needs)  -- enum-told-3
-    (λ c κs. let d = c .before .before .before in (omega (arith, witness-start t d .pre .0), given-to t d (c .before .enum-told3 .given .1)))  -- write-no-object-requires
-    (λ c. search needs)  -- enum-told-4
-    (λ c κs. let d = c .before in beyond-ready (witness-start t (d .before .before) .pre .1) (is-name t d))  -- write-beyond-requires
-    (λ c. search needs)  -- same-length
-    (λ c. c .before .before .write-no-array .ensures)  -- returns
-    (λ c. search needs)  -- same-length-2
-    (λ c. c .before .before .write-no-map .ensures)  -- returns-2
-    (λ c. search needs)  -- same-length-3
-    (λ c. c .before .before .write-no-object .ensures)  -- returns-3
-    (λ c. search needs)  -- same-length-4
-    (λ c. let d = c .before .before .before .before in beyond-written (witness-start t (d .before .before) .pre .1) (is-name t d) (c .before .before .write-beyond .ensures)))  -- returns-4
+    (λ t. write-witness-lts.spec (write-witness-claims t) (at 5 write-witness-kinds.ps μ-write-witness write-witness.Pre t) write-witness.Post
+    (λ c κs. search needs)  -- generic-at-requires
+    (λ c. search needs)  -- Array
+    (λ c κs. (omega arith, search given-to))
+    (λ c. search needs)  -- Map
+    (λ c κs. (omega arith, search given-to))
+    (λ c. search needs)  -- Object
+    (λ c κs. (omega arith, search given-to))
+    (λ c. search needs)  -- a type name
+    (λ c κs. search name-ready)
+    (λ c. search needs)  -- Array
+    (λ c. search needs)
+    (λ c. search needs)  -- Map
+    (λ c. search needs)
+    (λ c. search needs)  -- Object
+    (λ c. search needs)
+    (λ c. search needs)  -- a type name
+    (λ c. search name-written))

@@ -4,14 +4,8 @@ use borrow.Author.Tests.{ne-eqb}
 use Rattle.date.proofs.calendar.is_leap.Statement.{statement}
 use Rattle.date.proofs.calendar.is_leap.Tie as tie
 
-returns : tie.Need-returns
-returns c = rw (c .if1 .taken)
-
-returns-2 : tie.Need-returns-2
-returns-2 c = rw (ne-eqb _ 0 (c .before .if1 .left), c .if2 .taken, and-false)
-
-returns-3 : tie.Need-returns-3
-returns-3 c = rw (ne-eqb _ 0 (c .before .if1 .left), ne-eqb _ 0 (c .if2 .left), and-true)
-
 pub is-leap-spec : {M : Type 1} → statement M
-is-leap-spec = tie.close (tie.spec returns returns-2 returns-3)
+is-leap-spec = tie.close (tie.spec
+    (λ c. rw (c .if1 .taken))  -- returns
+    (λ c. rw (ne-eqb _ 0 (c .before .if1 .left), c .if2 .taken, and-false))  -- returns-2
+    (λ c. rw (ne-eqb _ 0 (c .before .if1 .left), ne-eqb _ 0 (c .if2 .left), and-true)))  -- returns-3

@@ -1,93 +1,34 @@
 -- `date::walk::two` meets its contract: with no digit, with one, and with two, whose number is small.
-use mathlib.Core.Path.{_≡_, refl, subst}
-use mathlib.Core.List.{List}
-use Prim.Native.Nat.{ℕ, _+_, _≤_}
+use Prim.Native.Nat.{_+_, _*_, _≤_}
 use native.Mathlib.Omega.{arith}
 use borrow.Author.Needs.{needs}
-use Rattle.chars.specs.Strings.{charsAt}
-use Rattle.date.specs.declared.walk.Number.the-variants.{Read}
-use Rattle.date.specs.Walk.{Stands, DigitTold}
-use Rattle.date.proofs.walk.Laws.{digit-small}
+use Rattle.date.proofs.walk.Laws.{two-none, two-one, digit-most, two-read}
 use Rattle.date.proofs.walk.two.Statement.{statement}
 use Rattle.date.proofs.walk.two.Tie as tie
 
 -- the first digit was read
-module _ (c : tie.After-known-told) where
-  abbrev s : List ℕ
-  s = c .before .before .before .before .before .args .body .now
+abbrev tens : tie.After-known-told2 → tie.After-tens
+tens c = c .before .before .before .before .before
 
-  abbrev i : ℕ
-  i = c .before .before .before .before .before .args .at
-
-  first : (l : List ℕ) (k : ℕ) → Stands s i l k → DigitTold s l k (Read (c .before .tens .given .0 .0) (c .before .tens .given .0 .1 .0))
-  first l k e = subst (DigitTold s l k) (c .before .tens .given .1) (c .before .before .before .digit .ensures l k e)
-
--- and the second
-module _ (c : tie.After-known-told2) where
-  abbrev b : tie.After-known-told
-  b = c .before .before .before .before
-
-  second : (l : List ℕ) (k : ℕ) → Stands (s b) (i b) l k → DigitTold (s b) l (k + 1) (Read (c .before .ones .given .0 .0) (c .before .ones .given .0 .1 .0))
-  second l k e = subst (DigitTold (s b) l (k + 1)) (c .before .ones .given .1) (c .before .before .before .digit2 .ensures l (k + 1) (first b l k e .2))
-
-  small : (b .before .tens .given .0 .0 ≤ 9) × (c .before .ones .given .0 .0 ≤ 9)
-  small =
-      let l = charsAt (s b) (i b) in
-      let x = first b l 0 refl in
-      let y = second l 0 refl in
-      omega (arith, digit-small l 0 (x .0), digit-small l 1 (y .0), x .1, y .1)
-
-digit-requires : tie.Need-digit-requires
-digit-requires c κs = search needs
-
-enum-known-tens : tie.Need-enum-known-tens
-enum-known-tens c = search needs
-
-enum-told : tie.Need-enum-told
-enum-told c = search needs
-
-returns : tie.Need-returns
-returns c = λ l k e. rw (rw (c .enum-told .given .1) at (c .before .before .digit .ensures l k e))
-
-digit-requires-2 : tie.Need-digit-requires-2
-digit-requires-2 c κs = search needs
-
-enum-known-ones : tie.Need-enum-known-ones
-enum-known-ones c = search needs
-
-enum-told-2 : tie.Need-enum-told-2
-enum-told-2 c = search needs
-
-returns-2 : tie.Need-returns-2
-returns-2 c = λ l k e.
-    let x = first (c .before .before .before) l k e in
-    rw (x .0, rw (c .enum-told2 .given .1) at (c .before .before .digit2 .ensures l (k + 1) (x .2)))
-
-mul-t9 : tie.Need-mul-t9
-mul-t9 c = omega (arith, small c)
-
-add-t10 : tie.Need-add-t10
-add-t10 c = omega (arith, small c)
-
-returns-3 : tie.Need-returns-3
-returns-3 c = λ l k e.
-    let x = first (b c) l k e in
-    let y = second c l k e in
-    let z : k + 1 + 1 ≡ k + 2 = omega arith in
-    (rw (x .0, y .0), rw (x .1, y .1), rw z at (y .2))
+-- the number of the two digits is small
+small : (c : tie.After-known-told2) → 10 * tens c .tens .given .0 .0 + c .before .ones .given .0 .0 ≤ 99
+small c =
+    omega (
+      arith,
+      digit-most (tens c .tens .given .1) _ _ (tens c .before .before .digit .ensures),
+      digit-most (c .before .ones .given .1) _ _ (c .before .before .before .digit2 .ensures),
+    )
 
 pub two-spec : {M : Type 1} → statement M
-two-spec =
-    tie.close
-    (tie.spec
-    digit-requires
-    enum-known-tens
-    enum-told
-    returns
-    digit-requires-2
-    enum-known-ones
-    enum-told-2
-    returns-2
-    mul-t9
-    add-t10
-    returns-3)
+two-spec = tie.close (tie.spec
+    (λ c κs. search needs)  -- digit-requires
+    (λ c. search needs)  -- enum-known-tens
+    (λ c. search needs)  -- enum-told
+    (λ c l k e. search two-none)  -- returns
+    (λ c κs. search needs)  -- digit-requires-2
+    (λ c. search needs)  -- enum-known-ones
+    (λ c. search needs)  -- enum-told-2
+    (λ c l k e. search two-one)  -- returns-2
+    (λ c. omega (arith, small c))  -- mul-t9
+    (λ c. omega (arith, small c))  -- add-t10
+    (λ c l k e. search two-read))  -- returns-3

@@ -1,43 +1,44 @@
--- `accept` meets its contract: the laws of `Accepting`.
-use mathlib.Core.Path.{_≡_, _∙_}
+-- `accept` meets its contract: a schema that is not read, one that is no definition, and one that is accepted.
 use borrow.Author.Needs.{needs}
-use lib.ListN.{length}
-use Rattle.syntax.specs.Answer.{answerOf, tableOf}
-use Rattle.definitions.specs.Accepting.{readSchema}
-use Rattle.definitions.proofs.accepting.Laws.{accept-unread, accept-rowed, accept-faulty, accept-fine}
+use Rattle.definitions.proofs.accepting.Laws.{SchemaRead, accept-unread, accept-rowed, accept-faulty, accept-fine}
 use Rattle.definitions.proofs.accepting.accept.Statement.{statement}
 use Rattle.definitions.proofs.accepting.accept.Tie as tie
 
--- the schema is read within a schema's limits
+-- the schema was read, within a schema's limits
 module _ (c : tie.After-read-within) where
-  abbrev a : _≡_ (c .read-within .result) (answerOf (c .before .before .before .before .before .args .which) (length (c .before .before .before .before .before .args .table .now)) (readSchema (c .before .before .before .before .before .args .schema .now)))
-  a = rw (c .before .before .schema .ensures) at (c .read-within .ensures .0)
+  abbrev start : tie.Start
+  start = c .before .before .before .before .before
 
-  abbrev t : _≡_ (c .read-within .last .1 .1 .1 .0) (tableOf (c .before .before .before .before .before .args .table .now) (readSchema (c .before .before .before .before .before .args .schema .now)))
-  t = rw (c .before .before .schema .ensures) at (c .read-within .ensures .1)
+  schema-read : let a = start .args in SchemaRead (a .which) (a .schema .now) (a .table .now) (c .read-within .result) (c .read-within .last .1 .1 .1 .0)
+  schema-read =
+      let l = c .before .before .schema .ensures in
+      record { answers = rw l at (c .read-within .ensures .0); rows = rw l at (c .read-within .ensures .1) }
 
-define-requires : tie.Need-define-requires
-define-requires c κs = let r = c .before .before .before .before .before in accept-rowed _ _ _ (a r) (t r) (c .before .if1 .left)
+-- from where its code is known
+abbrev reading : tie.After-struct-known → tie.After-read-within
+reading c = c .before .before .before
 
 returns-2 : tie.Need-returns-2
 returns-2 c =
-    let d = c .before .before .before in
-    let r = d .before .before .before .before .before .before in
-    (c .new .ensures ∙ accept-faulty _ _ _ (a r) (t r) (d .before .before .if1 .left) (d .define .ensures) (c .before .if2 .taken), t r)
+    let p = c .before in
+    let d = p .before .before in
+    let r = d .before .before in
+    accept-faulty (schema-read (reading (r .before))) (r .if1 .left) (d .define .ensures) (p .if2 .taken) (c .new .ensures)
 
 returns-3 : tie.Need-returns-3
 returns-3 c =
-    let d = c .before .before .before in
-    let r = d .before .before .before .before .before .before in
-    (c .new2 .ensures ∙ accept-fine _ _ _ (a r) (t r) (d .before .before .if1 .left) (d .define .ensures) (c .before .if2 .left), t r)
+    let p = c .before in
+    let d = p .before .before in
+    let r = d .before .before in
+    accept-fine (schema-read (reading (r .before))) (r .if1 .left) (d .define .ensures) (p .if2 .left) (c .new2 .ensures)
 
 pub accept-spec : {M : Type 1} → statement M
 accept-spec = tie.close (tie.spec
     (λ c κs. search needs)  -- schema-requires
     (λ c κs. search needs)  -- read-within-requires
     (λ c. search needs)  -- same-length
-    (λ c. let r = c .before .before .before .before in (accept-unread _ _ _ (a r) (t r) (c .if1 .taken), t r))  -- returns
-    define-requires
+    (λ c. accept-unread (schema-read (reading (c .before))) (c .if1 .taken))  -- returns
+    (λ c κs. let r = c .before in accept-rowed (schema-read (reading (r .before))) (r .if1 .left))  -- define-requires
     (λ c κs. search needs)  -- new-requires
     (λ c. search needs)  -- same-length-2
     returns-2

@@ -1,4 +1,4 @@
--- `schema::names::takes` meets its contract: each case of the type.
+-- `takes` meets its contract: each case of the type.
 use Prim.Native.Nat.{ℕ, _<_}
 use mathlib.Core.Path.{_≡_, refl}
 use mathlib.Core.Bool.{false}
@@ -43,9 +43,9 @@ takes-spec = tie.close (tie.spec
     (λ c. search needs)  -- enum-told-5
     (λ c. rw (c .enum-told .given .1))  -- returns
     (λ c. rw (c .before .enum-told2 .given .1, c .if1 .taken))  -- returns-2
-    (λ c. rw (c .before .enum-told2 .given .1, ne-eqb (c .before .before .before .args .kind) 4 (c .if1 .left)))  -- returns-3
+    (λ c. rw (c .before .enum-told2 .given .1, ne-eqb _ 4 (c .if1 .left)))  -- returns-3
     (λ c. rw (c .enum-told3 .given .1))  -- returns-4
     (λ c. rw (c .enum-told4 .given .1))  -- returns-5
     (λ c. rw (c .before .enum-told5 .given .1, c .if2 .taken))  -- returns-6
-    (λ c. rw (c .before .enum-told5 .given .1, ne-eqb (c .before .before .before .args .kind) 2 (c .if2 .left)))  -- returns-7
+    (λ c. rw (c .before .enum-told5 .given .1, ne-eqb _ 2 (c .if2 .left)))  -- returns-7
     (λ c. takes-none (c .before .args .name) (c .before .args .kind) (c .match .keys6)))  -- returns-8

@@ -1,4 +1,4 @@
--- `reader::filling::put` meets its contract: five stores one behind the other are the row.
+-- `put` meets its contract: five stores one behind the other are the row.
 use native.Mathlib.Omega.{arith}
 use native.Mathlib.Numerals.{towards-suc}
 use lib.ListN.{length-set}

@@ -1,6 +1,7 @@
 -- `put_mark` meets its contract: the row that it writes, by which kind of mark it is.
-use mathlib.Core.Path.{_≡_, sym}
+use mathlib.Core.Path.{_≡_}
 use Prim.Native.Nat.{ℕ}
+use native.Mathlib.Omega.{arith}
 use borrow.Author.Needs.{needs}
 use Rattle.marks.specs.Packing.{firstIn, secondIn, thirdIn, fourthIn}
 use Rattle.marks.proofs.marks.Laws.{name-in, leaf-in, list-in}
@@ -12,24 +13,36 @@ module _ (c : tie.After-fourth-in) where
   abbrev mark : ℕ
   mark = c .before .before .before .before .before .args .mark
 
-  numbers : (firstIn mark ≡ c .before .before .before .first-in .result) × (secondIn mark ≡ c .before .before .second-in .result)
-      × (thirdIn mark ≡ c .before .third-in .result) × (fourthIn mark ≡ c .fourth-in .result)
-  numbers = (sym (c .before .before .before .first-in .ensures), sym (c .before .before .second-in .ensures), sym (c .before .third-in .ensures), sym (c .fourth-in .ensures))
+  numbers : let third = c .before in let second = third .before in let first = second .before in
+      (firstIn mark ≡ first .first-in .result) × (secondIn mark ≡ second .second-in .result)
+      × (thirdIn mark ≡ third .third-in .result) × (fourthIn mark ≡ c .fourth-in .result)
+  numbers = omega arith
 
+-- a name
 returns : tie.Need-returns
 returns c =
-    let d = c .before .before .before .before in
-    rw (name-in (mark (d .before)) (numbers (d .before)) (d .if1 .taken)) (c .before .before .put .ensures)
+    let p = c .before .before in
+    let d = p .before .before in
+    let n = d .before in
+    rw (name-in (mark n) (numbers n) (d .if1 .taken)) (p .put .ensures)
 
+-- a value that holds no other
 returns-2 : tie.Need-returns-2
 returns-2 c =
-    let d = c .before .before .before .before in
-    rw (leaf-in (mark (d .before .before)) (numbers (d .before .before)) (d .before .if1 .left) (d .if2 .taken)) (c .before .before .put2 .ensures)
+    let p = c .before .before in
+    let d = p .before .before in
+    let e = d .before in
+    let n = e .before in
+    rw (leaf-in (mark n) (numbers n) (e .if1 .left) (d .if2 .taken)) (p .put2 .ensures)
 
+-- an array or an object
 returns-3 : tie.Need-returns-3
 returns-3 c =
-    let d = c .before .before .before .before in
-    rw (list-in (mark (d .before .before)) (numbers (d .before .before)) (d .before .if1 .left) (d .if2 .left)) (c .before .before .put3 .ensures)
+    let p = c .before .before in
+    let d = p .before .before in
+    let e = d .before in
+    let n = e .before in
+    rw (list-in (mark n) (numbers n) (e .if1 .left) (d .if2 .left)) (p .put3 .ensures)
 
 pub put-mark-spec : {M : Type 1} → statement M
 put-mark-spec = tie.close (tie.spec

@@ -1,4 +1,4 @@
--- `reader::names::bucket` meets its contract.
+-- `bucket` meets its contract.
 use native.Mathlib.Nat.{le-of-lt, mul-le-mul}
 use native.Mathlib.Omega.{arith}
 use borrow.Author.Needs.{needs}

@@ -1,21 +1,26 @@
--- `reader::names::push` meets its contract.
+-- `push` meets its contract: the name leads to its bucket's last one, and is it afterwards.
 use Prim.Native.Nat.{_<_}
 use native.Mathlib.Omega.{arith}
 use borrow.Author.Needs.{needs}
 use lib.ListN.{length}
-use Rattle.marks.proofs.names.Index.{bucket-in, index-head, index-push}
+use Rattle.marks.proofs.names.Index.{index-bucket, index-head, index-push}
 use Rattle.marks.proofs.names.push.Statement.{statement}
 use Rattle.marks.proofs.names.push.Tie as tie
 
--- the bucket is one of the index
-in-heads : (c : tie.After-bucket) → c .bucket .result < length (c .before .before .before .args .heads .now)
-in-heads c = let a = c .before .before .before in omega (arith, bucket-in (length (a .args .heads .now)) (a .args .hash) (a .pre .1 .2) (a .pre .0 .0 .some))
+-- the entry, from where the bucket is known
+abbrev entry : tie.After-bucket → tie.Start
+entry c = c .before .before .before
+
+-- it is one of the index
+in-heads : (c : tie.After-bucket) → c .bucket .result < length (entry c .args .heads .now)
+in-heads c = index-bucket (entry c .pre .0 .0) (entry c .pre .1 .2) (c .bucket .ensures)
 
 returns : tie.Need-returns
 returns c =
-    let p = c .before .before .before .before .before .pre in (
-      rw (c .pack .ensures, c .before .before .bucket .ensures),
-      rw (c .pack .ensures, c .before .before .bucket .ensures) (index-push _ _ _ _ _ _ (p .0 .0) (p .0 .1) (p .0 .2) (p .1 .0) (p .1 .1) (p .1 .2)),
+    let b = c .before .before in
+    let p = entry b .pre in (
+      rw (c .pack .ensures, b .bucket .ensures),
+      rw (c .pack .ensures, b .bucket .ensures) (index-push _ _ _ _ _ _ (p .0 .0) (p .0 .1) (p .0 .2) (p .1 .0) (p .1 .1) (p .1 .2)),
     )
 
 pub push-spec : {M : Type 1} → statement M
@@ -24,8 +29,8 @@ push-spec = tie.close (tie.spec
     (λ c. search needs)  -- sub-pack
     (λ c. omega (arith, in-heads c))  -- mul-pack
     (λ c. in-heads (c .before))  -- slice-read-pack
-    (λ c. omega (arith, index-head (c .before .before .before .before .pre .0 .0) (in-heads (c .before))))  -- cast-pack
-    (λ c κs. omega (arith, index-head (c .before .before .before .before .pre .0 .0) (in-heads (c .before))))  -- pack-requires
+    (λ c. let b = c .before in omega (arith, index-head (entry b .pre .0 .0) (in-heads b)))  -- cast-pack
+    (λ c κs. let b = c .before in omega (arith, index-head (entry b .pre .0 .0) (in-heads b)))  -- pack-requires
     (λ c. search needs)  -- mul-marks
     (λ c. search needs)  -- slice-write-marks
     (λ c. search needs)  -- cast-heads

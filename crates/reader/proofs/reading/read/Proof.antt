@@ -8,4 +8,4 @@ read-spec = tie.close (tie.spec
     (λ c κs. search needs)  -- document-requires
     (λ c κs. search needs)  -- read-within-requires
     (λ c. search needs)  -- same-length
-    (λ c. rw (c .before .before .before .before .document .ensures) at (c .before .before .read-within .ensures)))  -- returns
+    (λ c. let r = c .before .before in rw (r .before .before .document .ensures) at (r .read-within .ensures)))  -- returns

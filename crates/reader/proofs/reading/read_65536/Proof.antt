@@ -5,14 +5,10 @@ use Rattle.reader.proofs.reading.Laws.{fresh}
 use Rattle.reader.proofs.reading.read_65536.Statement.{statement}
 use Rattle.reader.proofs.reading.read_65536.Tie as tie
 
-read-in-requires : tie.Need-read-in-requires
-read-in-requires c κs =
-    let start = c .before .before .before .before .before in fresh _ 16384 32785 _ (start .pre .0) (omega arith) (start .pre .1)
-
 pub read-65536-spec : {M : Type 1} → statement M
 read-65536-spec = tie.close (tie.spec
     (λ c. search needs)  -- slice-aggregate-read-in
     (λ c. search needs)  -- slice-aggregate-read-in-2
-    read-in-requires
+    (λ c κs. fresh _ 16384 32785 _ (omega arith) (omega arith) (omega arith))  -- read-in-requires
     (λ c. search needs)  -- same-length
     (λ c. search needs))  -- returns

@@ -1,47 +1,32 @@
 -- `reader::scanning::leaf` meets its contract: what was read is told, and its row is kept.
-use mathlib.Core.Path.{_≡_, ap, _∙_}
 use native.Mathlib.Omega.{arith}
 use borrow.Author.Needs.{needs}
-use Rattle.tokens.specs.Tokens.{tokenOf}
-use Rattle.tokens.specs.Scalars.{scalarBy, scalarAt}
-use Rattle.tokens.specs.declared.scalars.First.{First}
-use Rattle.reader.proofs.scanning.Leaves.{leaf-broken, leaf-fits, leaf-noted}
+use Rattle.reader.proofs.scanning.Leaves.{LeafRead, leaf-read, leaf-broken, leaf-fits, leaf-noted}
 use Rattle.reader.proofs.scanning.leaf.Statement.{statement}
 use Rattle.reader.proofs.scanning.leaf.Tie as tie
 
--- what was read is the value's token, since it begins so
-read : (c : tie.After-scalar) → let a = c .before .before .before .args in c .scalar .result ≡ tokenOf (scalarAt (a .text .now) (a .at))
-read c =
-    let a = c .before .before .before .args in
-    c .scalar .ensures ∙ ap (λ (f : First). tokenOf (scalarBy f (a .text .now) (a .at))) (c .before .before .before .pre .1 .first)
+abbrev start : tie.After-scalar → tie.Start
+start c = c .before .before .before
 
-leaf-mark-requires : tie.Need-leaf-mark-requires
-leaf-mark-requires c κs = let b = c .before .before .before in leaf-fits (b .before .before .before .pre .0) (read b) (c .before .kind .given .1) .0
+-- what was read
+read : (c : tie.After-scalar) → let a = start c .args in LeafRead (a .text .now) (a .marks .now) (a .row) (a .at) (c .scalar .result)
+read c = leaf-read (start c .pre) (c .scalar .ensures)
 
-mul-marks : tie.Need-mul-marks
-mul-marks c =
-    let b = c .before .before .before .before in omega (arith, leaf-fits (b .before .before .before .pre .0) (read b) (c .before .before .kind .given .1) .1)
+-- it is a value
+abbrev said : tie.After-known-told2 → tie.After-scalar
+said c = c .before .before .before
 
-slice-write-marks : tie.Need-slice-write-marks
-slice-write-marks c =
-    let b = c .before .before .before .before in leaf-fits (b .before .before .before .pre .0) (read b) (c .before .before .kind .given .1) .1
-
-returns : tie.Need-returns
-returns c = let b = c .before .before .before in leaf-broken (b .before .before .before .pre .0) (read b) (c .before .code .given .1)
-
-returns-2 : tie.Need-returns-2
-returns-2 c =
-    let b = c .before .before .before .before in
-    leaf-noted (b .before .before .before .pre .0) (read b) (c .before .before .kind .given .1) (c .leaf-mark .ensures)
+room : tie.Need-slice-write-marks
+room c = let k = c .before in leaf-fits (read (said k)) (k .before .kind .given .1) .1
 
 pub leaf-spec : {M : Type 1} → statement M
 leaf-spec = tie.close (tie.spec
     (λ c κs. search needs)  -- scalar-requires
     (λ c. search needs)  -- enum-known-code
     (λ c. search needs)  -- enum-known-kind
-    leaf-mark-requires
-    mul-marks
-    slice-write-marks
-    returns
+    (λ c κs. leaf-fits (read (said c)) (c .before .kind .given .1) .0)  -- leaf-mark-requires
+    (λ c. omega (arith, room c))  -- mul-marks
+    room
+    (λ c. leaf-broken (read (c .before .before .before)) (c .before .code .given .1))  -- returns
     (λ c. search needs)  -- same-length
-    returns-2)
+    (λ c. let k = c .before in leaf-noted (read (said k)) (k .before .kind .given .1) (c .leaf-mark .ensures)))  -- returns-2

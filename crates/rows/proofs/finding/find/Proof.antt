@@ -1,70 +1,66 @@
--- `schema::rows::find` meets its contract. The loop's invariant: the name was not among the members before row `row`. The measure is how many are left.
-use Prim.Native.Nat.{_+_, _≤_}
-use mathlib.Core.Path.{sym, _∙_}
-use lib.ListN.{length}
+-- `find` meets its contract. Invariant: the name was not among the members before row `row`. Measure: how many are left.
+use mathlib.Core.Path.{_≡_, sym, _∙_}
 use denote.Ref.{now}
 use native.Mathlib.Omega.{arith}
 use borrow.Author.Needs.{needs}
+use Rattle.model.specs.Text.{same}
 use Rattle.chars.specs.Strings.{characters}
+use Rattle.syntax.specs.Grammar.{nameOf}
 use Rattle.rows.proofs.records.Trees.{as-row, in-table}
 use Rattle.rows.proofs.records.Members.{MemberHere, quotes-read}
 use Rattle.rows.proofs.finding.Laws.{Seeking, seek, seek-end, candidate, hit, missed}
 use Rattle.rows.proofs.finding.find.Statement.{statement}
 use Rattle.rows.proofs.finding.find.Tie as tie
 
-abbrev Inv-loop : tie.InvT-loop
-Inv-loop text table object key whole left₀ row₀ left row = Seeking text table object (characters key) row left
+abbrev Inv : tie.InvT-loop
+Inv text table object key whole left₀ row₀ left row = Seeking text table object (characters key) row left
 
-abbrev μ-loop : tie.MeasureT-loop
-μ-loop text table object key whole left₀ row₀ left row = left
+abbrev μ : tie.MeasureT-loop
+μ text table object key whole left₀ row₀ left row = left
 
--- the member whose name is read in a turn, and the quotes of that name
-name-here : (c : tie.In-loop Inv-loop μ-loop) →
-    let a = c .before .before .before .before .before .before .args in
+-- the entry, from where the object's row is read
+abbrev entry : tie.After-row-at Inv μ → tie.Start Inv μ
+entry c = c .before .before .before .before
+
+-- the member whose name is compared in a turn
+here : (c : tie.In-loop Inv μ) → let a = entry (c .before .before) .args in
     MemberHere (now (a .text)) (now (a .table)) (c .before .loop .row) (c .before .loop .inv .rest)
-name-here c = candidate (c .before .loop .inv) (c .loop-test .taken)
+here c = candidate (c .before .loop .inv) (c .loop-test .taken)
 
-quotes : (c : tie.After-row-at2 Inv-loop μ-loop) →
-    let x = c .row-at2 .result in
-    (x .first + 2 ≤ x .end) × (x .end ≤ length (now (c .before .before .before .before .before .before .before .args .text)))
-quotes c = quotes-read (c .row-at2 .ensures) (name-here (c .before) .quoted)
+-- once it was compared
+module _ (c : tie.After-same-name Inv μ) where
+  abbrev read : tie.After-row-at2 Inv μ
+  read = c .before .before
 
--- the row whose name was compared
-abbrev row-read : tie.After-same-name Inv-loop μ-loop → tie.After-row-at2 Inv-loop μ-loop
-row-read c = c .before .before .before .before
+  abbrev turn : tie.In-loop Inv μ
+  turn = read .before
 
-add-row : tie.Need-add-row Inv-loop μ-loop
-add-row c = omega (arith, in-table (as-row (c .before .before .before .before .pre)) .here, c .before .before .before .before .good)
+  compared : let a = entry (turn .before .before) .args in let x = read .row-at2 .result in
+      same (characters (now (a .key))) (nameOf (now (a .text)) (x .first) (x .end)) ≡ c .same-name .result
+  compared = sym (rw (c .before .between .ensures) at (c .same-name .ensures))
 
-returns : tie.Need-returns Inv-loop μ-loop
+returns : tie.Need-returns Inv μ
 returns c =
-    let d = row-read (c .before) in
-    hit (d .before .before .loop .inv) (d .before .loop-test .taken) (d .row-at2 .ensures) (sym (c .before .same-name .ensures) ∙ c .if1 .taken)
+    let d = c .before in
+    hit (turn d .before .loop .inv) (turn d .loop-test .taken) (read d .row-at2 .ensures) (compared d ∙ c .if1 .taken)
 
-loop-again : tie.Need-loop-again Inv-loop μ-loop
+loop-again : tie.Need-loop-again Inv μ
 loop-again c =
-    let n = c .before .before in
-    let d = row-read n in
-    missed (d .before .before .loop .inv) (d .before .loop-test .taken) (d .row-at2 .ensures) (sym (n .same-name .ensures) ∙ c .before .if1 .left) (c .row-at3 .ensures .next)
+    let d = c .before .before in
+    missed (turn d .before .loop .inv) (turn d .loop-test .taken) (read d .row-at2 .ensures) (compared d ∙ c .before .if1 .left) (c .row-at3 .ensures .next)
 
 pub find-spec : {M : Type 1} → statement M
-find-spec = tie.close (tie.spec Inv-loop μ-loop
+find-spec = tie.close (tie.spec Inv μ
     (λ c κs. in-table (as-row (c .before .before .before .pre)))  -- row-at-requires
-    add-row
-    (λ c. seek (c .before .before .before .before .pre) (c .row-at .ensures .children))  -- loop-holds
-    (λ c κs. name-here c .in-table)  -- row-at-requires-2
-    (λ c. search needs)  -- cast-from
-    (λ c. omega (arith, quotes (c .before)))  -- add-from
-    (λ c. search needs)  -- cast-to
-    (λ c. omega (arith, quotes (c .before .before)))  -- sub-to
-    (λ c. omega (arith, quotes (c .before .before)))  -- sub-same-name
-    (λ c. omega (arith, quotes (c .before .before)))  -- part-same-name-start
-    (λ c. omega (arith, quotes (c .before .before)))  -- part-same-name-end
+    (λ c. omega (arith, in-table (as-row (entry c .pre)) .here, entry c .good))  -- add-row
+    (λ c. seek (entry c .pre) (c .row-at .ensures .children))  -- loop-holds
+    (λ c κs. here c .in-table)  -- row-at-requires-2
+    (λ c κs. quotes-read (c .row-at2 .ensures) (here (c .before) .quoted))  -- between-requires
     (λ c κs. search needs)  -- same-name-requires
-    (λ c. omega (arith, name-here (row-read (c .before) .before) .in-table .here))  -- add-result
+    (λ c. omega (arith, here (turn (c .before)) .in-table .here))  -- add-result
     returns
-    (λ c. omega (arith, name-here (row-read (c .before) .before) .in-table .here))  -- add-row-at
-    (λ c κs. in-table (name-here (row-read (c .before) .before) .value))  -- row-at-requires-3
+    (λ c. omega (arith, here (turn (c .before)) .in-table .here))  -- add-row-at
+    (λ c κs. in-table (here (turn (c .before)) .value))  -- row-at-requires-3
     (λ c. omega arith)  -- sub-left
     (λ c. omega arith)  -- loop-less
     loop-again

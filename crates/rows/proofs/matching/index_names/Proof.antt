@@ -1,73 +1,84 @@
--- `schema::matching::index_names` meets its contract. The loop's invariant: the first i names are indexed. The measure is how many are left.
-use Prim.Native.Nat.{ℕ, _+_, _-_, _≤_, _<_}
+-- `index_names` meets its contract. Invariant: the first i names are indexed. Measure: how many are left.
+use Prim.Native.Nat.{ℕ, _-_, _<_}
 use denote.Ref.{now}
 use mathlib.Core.Path.{ap, _∙_}
 use lib.ListN.{length, length-replicate}
 use native.Mathlib.Omega.{arith}
 use borrow.Author.Needs.{needs}
+use Rattle.rows.specs.Matching.{mostNames, bucketCount}
 use Rattle.rows.proofs.matching.Index.{Indexing, indexing-start, indexing-name, indexing-next, indexing-end}
 use Rattle.rows.proofs.records.Trees.{in-table, as-row}
 use Rattle.rows.proofs.records.Members.{MemberHere, quotes-read}
 use Rattle.rows.proofs.matching.index_names.Statement.{statement}
 use Rattle.rows.proofs.matching.index_names.Tie as tie
-use Rattle.rows.specs.Matching.{mostNames, bucketCount}
 
-abbrev Inv-loop : tie.InvT-loop
-Inv-loop text table object heads₀ links₀ firsts₀ ends₀ count i₀ row₀ heads links firsts ends i row =
+abbrev Inv : tie.InvT-loop
+Inv text table object heads₀ links₀ firsts₀ ends₀ count i₀ row₀ heads links firsts ends i row =
     Indexing text table object heads links firsts ends count i row
 
-abbrev μ-loop : tie.MeasureT-loop
-μ-loop text table object heads₀ links₀ firsts₀ ends₀ count i₀ row₀ heads links firsts ends i row = count - i
+abbrev μ : tie.MeasureT-loop
+μ text table object heads₀ links₀ firsts₀ ends₀ count i₀ row₀ heads links firsts ends i row = count - i
 
--- the member whose name is read in a turn, the room for it, and the quotes of its name
-name-here : (c : tie.In-loop Inv-loop μ-loop) → let a = c .before .before .before .before .before .before .args in
-    MemberHere (now (a .text)) (now (a .table)) (c .before .loop .row) (c .before .loop .inv .rest)
-name-here c = indexing-name (c .before .loop .inv) (c .loop-test .taken)
+-- the entry, from where the object's row is read
+abbrev entry : tie.After-struct-known Inv μ → tie.Start Inv μ
+entry c = c .before .before .before .before
 
-room : (c : tie.In-loop Inv-loop μ-loop) → c .before .loop .i < mostNames
-room c = omega (arith, c .before .loop .inv .few, c .loop-test .taken)
+-- the member whose name is read in a turn, and the room for it
+module _ (c : tie.In-loop Inv μ) where
+  abbrev start : tie.Start Inv μ
+  start = entry (c .before .before)
 
-quotes : (c : tie.After-row-at2 Inv-loop μ-loop) → let x = c .row-at2 .result in
-    (x .first + 2 ≤ x .end) × (x .end ≤ length (now (c .before .before .before .before .before .before .before .args .text)))
-quotes c = quotes-read (c .row-at2 .ensures) (name-here (c .before) .quoted)
+  here : MemberHere (now (start .args .text)) (now (start .args .table)) (c .before .loop .row) (c .before .loop .inv .rest)
+  here = indexing-name (c .before .loop .inv) (c .loop-test .taken)
 
-loop-holds : tie.Need-loop-holds Inv-loop μ-loop
+  room : c .before .loop .i < mostNames
+  room = omega (arith, c .before .loop .inv .few, c .loop-test .taken)
+
+-- the turn, from where the name's bucket is known; then from where its link is
+abbrev turn : tie.After-bucket Inv μ → tie.In-loop Inv μ
+turn c = c .before .before .before
+
+abbrev linked : tie.After-links Inv μ → tie.In-loop Inv μ
+linked c = turn (c .before)
+
+loop-holds : tie.Need-loop-holds Inv μ
 loop-holds c =
-    let s = c .before .before .before .before in
-    indexing-start (s .pre .0) (c .before .row-at .ensures .children) (omega (arith, s .pre .1 .0 .0, c .before .row-at .ensures .children)) (s .pre .1 .0 .1)
-    (ap length (s .pre .1 .0 .1) ∙ length-replicate {A = ℕ} bucketCount 0, s .pre .1 .1 .0, s .pre .1 .1 .1, s .pre .1 .1 .2)
+    let p = entry c .pre in
+    let count = c .before .row-at .ensures .children in
+    let empty = p .1 .0 .1 in
+    let long = p .1 .1 in
+    indexing-start (p .0) count (omega (arith, p .1 .0 .0, count)) empty
+    record { heads = ap length empty ∙ length-replicate {A = ℕ} bucketCount 0; links = long .0; firsts = long .1; ends = long .2 }
 
-add-row-at : tie.Need-add-row-at Inv-loop μ-loop
-add-row-at c = let i = c .before .before .before .before in omega (arith, name-here i .in-table .here, i .before .before .before .before .before .before .good)
-
-loop-again : tie.Need-loop-again Inv-loop μ-loop
+loop-again : tie.Need-loop-again Inv μ
 loop-again c =
-    let i = c .before .before .before .before .before in
-    indexing-next (i .before .loop .inv) (i .loop-test .taken) (c .before .before .before .before .row-at2 .ensures) (c .row-at3 .ensures) (c .before .before .bucket .ensures)
+    let b = c .before .before in
+    let i = turn b in
+    indexing-next (i .before .loop .inv) (i .loop-test .taken) (b .before .before .row-at2 .ensures) (c .row-at3 .ensures) (b .bucket .ensures)
 
 pub index-names-spec : {M : Type 1} → statement M
-index-names-spec = tie.close (tie.spec Inv-loop μ-loop
+index-names-spec = tie.close (tie.spec Inv μ
     (λ c κs. in-table (as-row (c .before .before .pre .0)))  -- row-at-requires
     (λ c. search needs)  -- cast-count
-    (λ c. let s = c .before .before .before .before in omega (arith, in-table (as-row (s .pre .0)) .here, s .good))  -- add-row
+    (λ c. omega (arith, in-table (as-row (entry c .pre .0)) .here, entry c .good))  -- add-row
     loop-holds
-    (λ c κs. name-here c .in-table)  -- row-at-requires-2
+    (λ c κs. here c .in-table)  -- row-at-requires-2
     (λ c. search needs)  -- cast-bucket
-    (λ c κs. omega (arith, quotes (c .before)))  -- bucket-requires
-    (λ c. omega (arith, room (c .before .before .before)))  -- mul-firsts
-    (λ c. room (c .before .before .before))  -- element-write-firsts
-    (λ c. omega (arith, room (c .before .before .before)))  -- mul-ends
-    (λ c. room (c .before .before .before))  -- element-write-ends
+    (λ c κs. omega (arith, quotes-read (c .before .row-at2 .ensures) (here (c .before .before) .quoted)))  -- bucket-requires
+    (λ c. omega (arith, room (turn c)))  -- mul-firsts
+    (λ c. room (turn c))  -- element-write-firsts
+    (λ c. omega (arith, room (turn c)))  -- mul-ends
+    (λ c. room (turn c))  -- element-write-ends
     (λ c. omega (arith, c .bucket .ensures .small))  -- mul-links
     (λ c. c .bucket .ensures .small)  -- element-copy-out-links
-    (λ c. omega (arith, room (c .before .before .before .before)))  -- mul-links-2
-    (λ c. room (c .before .before .before .before))  -- element-write-links
-    (λ c. omega (arith, room (c .before .before .before .before)))  -- add-i
-    (λ c. omega (arith, room (c .before .before .before .before)))  -- cast-heads
+    (λ c. omega (arith, room (linked c)))  -- mul-links-2
+    (λ c. room (linked c))  -- element-write-links
+    (λ c. omega (arith, room (linked c)))  -- add-i
+    (λ c. omega (arith, room (linked c)))  -- cast-heads
     (λ c. omega (arith, c .before .bucket .ensures .small))  -- mul-heads
     (λ c. c .before .bucket .ensures .small)  -- element-write-heads
-    add-row-at
-    (λ c κs. in-table (name-here (c .before .before .before .before) .value))  -- row-at-requires-3
+    (λ c. omega (arith, here (linked c) .in-table .here, start (linked c) .good))  -- add-row-at
+    (λ c κs. in-table (here (linked c) .value))  -- row-at-requires-3
     (λ c. omega arith)  -- loop-less
     loop-again
     (λ c. indexing-end (c .before .loop .inv) (c .loop-test .left)))  -- returns

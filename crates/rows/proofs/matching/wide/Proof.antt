@@ -1,4 +1,4 @@
--- `wide` meets its contract.
+-- `wide` meets its contract: where it says so, there is room for the names.
 use mathlib.Core.Bool.{false≢true}
 use borrow.Author.Needs.{needs}
 use Rattle.rows.proofs.matching.wide.Statement.{statement}

@@ -4,19 +4,15 @@ use mathlib.Core.Path.{sym}
 use mathlib.Core.List.{List, _++_}
 use native.Mathlib.Omega.{arith}
 use lib.ListN.{length, set, length-set}
-use mir.Syntax.{w64}
-use mir.Val.{Fits}
 use borrow.Author.Needs.{needs}
-use Rattle.model.specs.Text.{text}
 use Rattle.model.specs.Witness.{fresh}
 use Rattle.definitions.specs.Definitions.{bare, bareFields}
-use Rattle.rows.specs.Finding.{Finds}
 use Rattle.definitions.specs.Shapes.{FieldsRow}
-use Rattle.definitions.proofs.Facts.{spelled, Fielded}
-use Rattle.rows.proofs.Facts.{as-row, in-table}
-use Rattle.comparison.proofs.Facts.{object-fields, object-body, required-fields}
+use Rattle.definitions.proofs.Facts.{Fielded}
+use Rattle.definitions.proofs.Facts.{object-fields}
+use Rattle.samples.proofs.values.Laws.{body-row, body-fits}
 use Rattle.samples.proofs.Lent.{putBack, wrote-two, Lent, lent, lent-more, lent-last, last-same}
-use Rattle.samples.proofs.fresh.Laws.{beyond-as, beyond-same, opened, isNull, fellows, beside-spelled, beside-long}
+use Rattle.samples.proofs.fresh.Laws.{required-found, beyond-as, beyond-same, opened, isNull, fellows, beside-spelled, beside-long}
 use Rattle.samples.proofs.fresh.write_beside.Statement.{statement}
 use Rattle.samples.proofs.fresh.write_beside.Tie as tie
 
@@ -74,10 +70,6 @@ module _ (c : tie.After-write-bytes) where
   pub lent₃ : Lent (out (start₂ named)) n₃ out₃ ((opened ++ name (start₂ named)) ++ isNull) (length (others (start₂ named)) + 1)
   lent₃ = lent-more (lent₂ named) isNull (omega arith) (c .write-bytes .ensures)
 
-  -- the row of the definition's body
-  pub body : Fits w64 (start₂ named .args .row + 2)
-  body = let p = start₂ named in omega (arith, in-table (as-row (object-body (p .pre .1) (p .pre .0 .row))) .here, p .good)
-
 -- the fields whose members stand beside it
 module _ (c : tie.After-find) where
   abbrev pub valued : tie.After-write-bytes
@@ -86,11 +78,8 @@ module _ (c : tie.After-find) where
   abbrev pub start₄ : tie.Start
   start₄ = start₂ (named valued)
 
-  pub required : Finds (start₄ .args .text .now) (start₄ .args .table .now) (start₄ .args .row + 2) (text "required") (c .find .result)
-  required = rw (spelled .required) at (c .find .ensures)
-
   abbrev pub fields : FieldsRow (start₄ .args .text .now) (start₄ .args .table .now) (c .find .result)
-  fields = required-fields (start₄ .pre .1) required (start₄ .pre .0 .row)
+  fields = required-found (start₄ .pre .1) (start₄ .pre .0 .row) (c .find .ensures)
 
 fields-ready : tie.Need-write-fields-requires
 fields-ready c κs = let f = c .before .before in record { row = fields f; fits = omega (arith, lent₃ (valued f) .left) }
@@ -127,9 +116,9 @@ write-beside-spec = tie.close (tie.spec
     (λ c. let d = c .before .before .before in omega (arith, lent₂ d .room, lent₂ d .same))
     (λ c κs. let d = c .before .before .before .before in omega (arith, lent₂ d .left))  -- write-bytes-requires
     (λ c. let d = c .before .before in omega (arith, lent₃ d .room, start₂ (named d) .good))  -- n
-    (λ c. body (c .before .before))  -- row + 2
+    (λ c. search body-fits)  -- row + 2
     (λ c. search needs)  -- b"required"
-    (λ c κs. let p = start₂ (named (c .before .before .before)) .pre in object-body (p .1) (p .0 .row))  -- find-requires
+    (λ c κs. search body-row)  -- find-requires
     (λ c. search needs)  -- b""
     (λ c. let d = valued (c .before) in omega (arith, lent₃ d .room, lent₃ d .same))  -- out[n..]
     (λ c. let d = valued (c .before) in omega (arith, lent₃ d .room, lent₃ d .same))

@@ -1,4 +1,4 @@
--- `chars::numbers::is_digit` meets its contract: within, below and above the range of digits.
+-- `tokens::numbers::is_digit` meets its contract: within, below and above the range of digits.
 use native.Mathlib.Omega.{arith}
 use borrow.Author.Tests.{le-leb, lt-leb}
 use Rattle.tokens.proofs.numbers.is_digit.Statement.{statement}

@@ -1,25 +1,13 @@
--- `chars::scalars::begins` meets its contract: the range of digits, then each arm by its byte.
+-- `tokens::scalars::begins` meets its contract: the range of digits, then each arm by its byte.
+use mathlib.Core.Path.{sym}
+use mathlib.Core.Logic.{⊎-elim}
 use native.Mathlib.Omega.{arith}
-use mathlib.Core.Path.{_≡_}
-use mathlib.Core.Bool.{false}
-use mathlib.Core.Logic.{inl, inr}
-use borrow.Author.Tests.{ne-eqb, le-leb, lt-leb}
-use Rattle.model.specs.Value.{isDigit}
+use borrow.Author.Tests.{ne-eqb}
+use Rattle.chars.proofs.Facts.{beside}
 use Rattle.tokens.specs.Scalars.{firstOf}
+use Rattle.tokens.proofs.scalars.Laws.{number-digit}
 use Rattle.tokens.proofs.scalars.begins.Statement.{statement}
 use Rattle.tokens.proofs.scalars.begins.Tie as tie
-
-returns : tie.Need-returns
-unfolding firstOf
-returns c =
-    let b = c .before .before .args .b in
-    rw (ne-eqb b 0x22 (λ q. omega arith), ne-eqb b 0x5B (λ q. omega arith), ne-eqb b 0x7B (λ q. omega arith), le-leb 0x30 b (omega arith), le-leb b 0x39 (omega arith))
-
--- it is no digit
-no-digit : (c : tie.At-match-rest) → isDigit (c .before .before .args .b) ≡ false
-no-digit c =
-    let b = c .before .before .args .b in
-    elim (c .before .if1 .came) [ inl l ↦ rw (lt-leb 0x30 b (omega arith)) | inr u ↦ rw (le-leb 0x30 b (omega (arith, u .0 .left)), lt-leb b 0x39 (omega (arith, u .1 .left))) ]
 
 returns-9 : tie.Need-returns-9
 unfolding firstOf
@@ -27,7 +15,7 @@ returns-9 c =
     let b = c .before .before .args .b in
     let not = c .match .rest in
     rw (
-      no-digit c,
+      beside 0x30 0x39 b (⊎-elim (λ w l. omega arith) (λ w l. omega arith) (c .before .if1 .came)),
       ne-eqb b 0x22 (not .0 .0 .0 .0 .0 .0 .1),
       ne-eqb b 0x5B (not .0 .0 .0 .0 .0 .1),
       ne-eqb b 0x7B (not .0 .0 .0 .0 .1),
@@ -40,7 +28,7 @@ returns-9 c =
 pub begins-spec : {M : Type 1} → statement M
 unfolding firstOf
 begins-spec = tie.close (tie.spec
-    returns
+    (λ c. sym (number-digit (c .before .before .args .b) (omega arith) (omega arith)))  -- returns
     (λ c. rw (c .match .keys1))  -- returns-2
     (λ c. rw (c .match .keys2))  -- returns-3
     (λ c. rw (c .match .keys3))  -- returns-4

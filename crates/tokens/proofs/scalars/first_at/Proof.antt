@@ -1,4 +1,4 @@
--- `chars::scalars::first_at` is `begins` of the byte at the place.
+-- `tokens::scalars::first_at` is `begins` of the byte at the place.
 use mathlib.Core.Path.{ap, _∙_}
 use borrow.Author.Needs.{needs}
 use Rattle.tokens.specs.Scalars.{firstOf}

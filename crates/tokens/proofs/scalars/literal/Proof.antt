@@ -1,5 +1,5 @@
--- `chars::scalars::literal` meets its contract. The loop's invariant: what the word gives at `at`, its rest from its kth byte on gives at i.
-use mathlib.Core.Path.{_≡_, refl, sym, _∙_}
+-- `tokens::scalars::literal` meets its contract. The loop's invariant: what the word gives at `at`, its rest from its kth byte on gives at i.
+use mathlib.Core.Path.{_≡_, refl, _∙_}
 use Prim.Native.Nat.{_+_, _-_, _≤_}
 use native.Mathlib.Omega.{arith}
 use borrow.Author.Needs.{needs}
@@ -17,14 +17,12 @@ abbrev μ-loop : tie.MeasureT-loop
 μ-loop text at word kind i₀ k₀ i k = length word - k
 
 returns : tie.Need-returns Inv-loop μ-loop
-returns c =
-    let turn = c .before .before .before .before in
-    λ t e. rw (turn .before .loop .inv .2 t, word-stop t _ _ _ _ (turn .loop-test .taken) (λ q. c .before .if1 .taken (c .before .before .before .peek .ensures ∙ q))) (c .unexpected .ensures)
+returns c = let p = c .before .before .before in let turn = p .before in
+    λ t e. rw (turn .before .loop .inv .2 t, word-stop t _ _ _ _ (p .peek .ensures) (turn .loop-test .taken) (c .before .if1 .taken)) (c .unexpected .ensures)
 
 loop-again : tie.Need-loop-again Inv-loop μ-loop
-loop-again c =
-    let turn = c .before .before .before in
-    (omega arith, omega arith, λ t. turn .before .loop .inv .2 t ∙ word-next t _ _ _ _ (turn .loop-test .taken) (sym (c .before .before .peek .ensures) ∙ c .if1 .left))
+loop-again c = let p = c .before .before in let turn = p .before in
+    (omega arith, omega arith, λ t. turn .before .loop .inv .2 t ∙ word-next t _ _ _ _ (p .peek .ensures) (turn .loop-test .taken) (c .if1 .left))
 
 pub literal-spec : {M : Type 1} → statement M
 literal-spec = tie.close (tie.spec Inv-loop μ-loop

@@ -1,4 +1,4 @@
--- `chars::scalars::scalar` meets its contract: nothing stands behind the text, and else each case of what the value begins with.
+-- `tokens::scalars::scalar` meets its contract: nothing stands behind the text, and else each case of what the value begins with.
 use mathlib.Core.Path.{refl}
 use borrow.Author.Needs.{needs}
 use Rattle.tokens.specs.Tokens.{Null, False, True}
@@ -8,7 +8,8 @@ use Rattle.tokens.proofs.scalars.scalar.Statement.{statement}
 use Rattle.tokens.proofs.scalars.scalar.Tie as tie
 
 returns-7 : tie.Need-returns-7
-returns-7 c = rw (scalar-none _ _ (c .before .before .before .before .args .first) (c .before .match .keys6)) (c .unexpected2 .ensures)
+returns-7 c = let f = c .before .before .before .before .args .first in
+    rw (scalar-none _ _ f (c .before .match .keys6)) (c .unexpected2 .ensures)
 
 pub scalar-spec : {M : Type 1} → statement M
 scalar-spec = tie.close (tie.spec

@@ -1,6 +1,6 @@
--- `chars::scalars::string` meets its contract: what `string_end` answers, by its two cases.
-use mathlib.Core.Path.{sym, _∙_}
+-- `tokens::scalars::string` meets its contract: what `string_end` answers, by its two cases.
 use borrow.Author.Needs.{needs}
+use Rattle.tokens.proofs.scalars.Steps.{string-taken, string-broken}
 use Rattle.tokens.proofs.scalars.string.Statement.{statement}
 use Rattle.tokens.proofs.scalars.string.Tie as tie
 
@@ -10,5 +10,5 @@ string-spec = tie.close (tie.spec
     (λ c κs. search needs)  -- string-end-requires
     (λ c. search needs)  -- enum-known-end
     (λ c. search needs)  -- enum-known-code
-    (λ c. rw (sym (c .before .before .before .string-end .ensures) ∙ c .before .end .given .1))  -- returns
-    (λ c. rw (sym (c .before .before .before .string-end .ensures) ∙ c .before .code .given .1)))  -- returns-2
+    (λ c. string-taken _ _ (c .before .before .before .string-end .ensures) (c .before .end .given .1))  -- returns
+    (λ c. string-broken _ _ (c .before .before .before .string-end .ensures) (c .before .code .given .1)))  -- returns-2

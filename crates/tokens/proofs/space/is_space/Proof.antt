@@ -1,4 +1,4 @@
--- `chars::space::is_space` meets its contract: each arm by its byte, the last by what it is not.
+-- `tokens::space::is_space` meets its contract: each arm by its byte, the last by what it is not.
 use borrow.Author.Tests.{ne-eqb}
 use Rattle.tokens.specs.Space.{isSpace}
 use Rattle.tokens.proofs.space.is_space.Statement.{statement}
@@ -6,7 +6,7 @@ use Rattle.tokens.proofs.space.is_space.Tie as tie
 
 returns-5 : tie.Need-returns-5
 unfolding isSpace
-returns-5 c = rw (ne-eqb _ 0x20 (c .match .rest .0 .0 .0 .1), ne-eqb _ 0x09 (c .match .rest .0 .0 .1), ne-eqb _ 0x0A (c .match .rest .0 .1), ne-eqb _ 0x0D (c .match .rest .1))
+returns-5 c = let n = c .match .rest in rw (ne-eqb _ 0x20 (n .0 .0 .0 .1), ne-eqb _ 0x09 (n .0 .0 .1), ne-eqb _ 0x0A (n .0 .1), ne-eqb _ 0x0D (n .1))
 
 pub is-space-spec : {M : Type 1} → statement M
 unfolding isSpace

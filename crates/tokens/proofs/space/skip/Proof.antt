@@ -1,12 +1,11 @@
--- `chars::space::skip` meets its contract. The loop's invariant: the space from `at` on ends where that from i on does.
+-- `tokens::space::skip` meets its contract. The loop's invariant: the space from `at` on ends where that from i on does.
 use mathlib.Core.Path.{_≡_, refl, sym, _∙_}
 use Prim.Native.Nat.{_-_}
 use native.Mathlib.Omega.{arith}
 use borrow.Author.Needs.{needs}
-use borrow.Author.Tests.{not-true, not-false}
 use lib.ListN.{length}
 use Rattle.tokens.specs.Space.{skip, isSpace}
-use Rattle.chars.proofs.Facts.{run-end, run-next, run-stop}
+use Rattle.chars.proofs.Facts.{run-end, run-over, run-left}
 use Rattle.tokens.proofs.space.skip.Statement.{statement}
 use Rattle.tokens.proofs.space.skip.Tie as tie
 
@@ -16,18 +15,16 @@ Inv-loop text at i₀ i = skip text at ≡ skip text i
 abbrev μ-loop : tie.MeasureT-loop
 μ-loop text at i₀ i = length text - i
 
-returns : tie.Need-returns Inv-loop μ-loop
-returns c = sym (c .before .before .before .before .loop .inv ∙ run-stop isSpace _ _ (sym (c .before .is-space .ensures) ∙ not-true _ (c .if1 .taken)))
-
 loop-again : tie.Need-loop-again Inv-loop μ-loop
-loop-again c = c .before .before .before .before .loop .inv ∙ run-next isSpace _ _ (c .before .before .before .loop-test .taken) (sym (c .before .is-space .ensures) ∙ not-false _ (c .if1 .left))
+loop-again c = let p = c .before in let l = p .before .before in
+    l .before .loop .inv ∙ run-over isSpace _ _ (p .is-space .ensures) (l .loop-test .taken) (c .if1 .left)
 
 pub skip-spec : {M : Type 1} → statement M
 skip-spec = tie.close (tie.spec Inv-loop μ-loop
     (λ c. refl)  -- loop-holds
     (λ c. omega arith)  -- shared-slice-read-is-space
     (λ c κs. search needs)  -- is-space-requires
-    returns
+    (λ c. let p = c .before in sym (p .before .before .before .loop .inv ∙ run-left isSpace _ _ (p .is-space .ensures) (c .if1 .taken)))  -- returns
     (λ c. omega arith)  -- add-i
     (λ c. omega arith)  -- loop-less
     loop-again

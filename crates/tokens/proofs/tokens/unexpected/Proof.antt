@@ -1,4 +1,4 @@
--- `chars::tokens::unexpected` meets its contract: the two ways of its test.
+-- `tokens::tokens::unexpected` meets its contract: the two ways of its test.
 use borrow.Author.Tests.{lt-ltb, le-ltb}
 use Rattle.tokens.specs.Parse.{unexpected}
 use Rattle.tokens.proofs.tokens.unexpected.Statement.{statement}

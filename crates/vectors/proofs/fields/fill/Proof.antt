@@ -6,43 +6,18 @@ use borrow.Author.Needs.{needs}
 use Rattle.vectors.proofs.fields.fill.Statement.{statement}
 use Rattle.vectors.proofs.fields.fill.Tie as tie
 
-abbrev Inv-loop : tie.InvT-loop
-Inv-loop out₀ byte i₀ i-end out i = (length out ≡ length out₀) × (i-end ≡ length out) × (i ≤ i-end)
+abbrev Inv : tie.InvT-loop
+Inv out₀ byte i₀ i-end out i = (length out ≡ length out₀) × (i-end ≡ length out) × (i ≤ i-end)
 
-abbrev μ-loop : tie.MeasureT-loop
-μ-loop out₀ byte i₀ i-end out i = i-end - i
-
-loop-holds : tie.Need-loop-holds Inv-loop μ-loop
-loop-holds c = search needs
-
-slice-write-out : tie.Need-slice-write-out Inv-loop μ-loop
-slice-write-out c = search needs
-
-add-i : tie.Need-add-i Inv-loop μ-loop
-add-i c = search needs
-
-loop-less : tie.Need-loop-less Inv-loop μ-loop
-loop-less c = search needs
-
-loop-again : tie.Need-loop-again Inv-loop μ-loop
-loop-again c = search needs
-
-same-length : tie.Need-same-length Inv-loop μ-loop
-same-length c = search needs
-
-returns : tie.Need-returns Inv-loop μ-loop
-returns c = search needs
+abbrev μ : tie.MeasureT-loop
+μ out₀ byte i₀ i-end out i = i-end - i
 
 pub fill-spec : {M : Type 1} → statement M
-fill-spec =
-    tie.close
-    (tie.spec
-    Inv-loop
-    μ-loop
-    loop-holds
-    slice-write-out
-    add-i
-    loop-less
-    loop-again
-    same-length
-    returns)
+fill-spec = tie.close (tie.spec Inv μ
+    (λ c. search needs)  -- loop-holds
+    (λ c. search needs)  -- slice-write-out
+    (λ c. search needs)  -- add-i
+    (λ c. search needs)  -- loop-less
+    (λ c. search needs)  -- loop-again
+    (λ c. search needs)  -- same-length
+    (λ c. search needs))  -- returns

@@ -10,9 +10,9 @@ use Rattle.writer.proofs.characters.char_len.Tie as tie
 pub char-len-spec : {M : Type 1} → statement M
 char-len-spec = tie.close (tie.spec
     (λ c κs. search needs)  -- letter-requires
-    (λ c. sym (ap length (by-short _ (λ z. c .if1 .taken (c .before .letter .ensures ∙ z)))))
-    (λ c. sym (ap length (by-long _ (sym (c .before .before .letter .ensures) ∙ omega arith) (c .if2 .taken))))
-    (λ c. sym (ap length (by-utf8 _ (sym (c .before .before .before .letter .ensures) ∙ omega arith) (omega arith) ∙ utf8-one _ (omega arith))))
-    (λ c. sym (ap length (by-utf8 _ (sym (c .before .before .before .before .letter .ensures) ∙ omega arith) (omega arith) ∙ utf8-two _ (omega arith) (omega arith))))
-    (λ c. sym (ap length (by-utf8 _ (sym (c .before .before .before .before .before .letter .ensures) ∙ omega arith) (omega arith) ∙ utf8-three _ (omega arith) (omega arith))))
-    (λ c. sym (ap length (by-utf8 _ (sym (c .before .before .before .before .before .letter .ensures) ∙ omega arith) (omega arith) ∙ utf8-four _ (omega arith)))))
+    (λ c. sym (ap length (by-short _ (omega arith))))  -- the short escape
+    (λ c. sym (ap length (by-long _ (omega arith) (omega arith))))  -- the long one
+    (λ c. sym (ap length (by-utf8 _ (omega arith) (omega arith) ∙ utf8-one _ (omega arith))))  -- one byte of UTF-8
+    (λ c. sym (ap length (by-utf8 _ (omega arith) (omega arith) ∙ utf8-two _ (omega arith) (omega arith))))  -- two bytes
+    (λ c. sym (ap length (by-utf8 _ (omega arith) (omega arith) ∙ utf8-three _ (omega arith) (omega arith))))  -- three bytes
+    (λ c. sym (ap length (by-utf8 _ (omega arith) (omega arith) ∙ utf8-four _ (omega arith)))))  -- four bytes

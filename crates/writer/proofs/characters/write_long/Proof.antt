@@ -2,13 +2,9 @@
 use native.Mathlib.Omega.{arith}
 use lib.ListN.{length-set}
 use borrow.Author.Needs.{needs}
-use Rattle.writer.proofs.Over.{over-sets}
-use Rattle.writer.specs.Spell.{longForm}
+use Rattle.writer.proofs.characters.Laws.{long-written}
 use Rattle.writer.proofs.characters.write_long.Statement.{statement}
 use Rattle.writer.proofs.characters.write_long.Tie as tie
-
-returns : tie.Need-returns
-returns c = rw (c .before .hex-digit .ensures, c .hex-digit2 .ensures) (over-sets (c .before .before .before .args .out .now) (longForm _) (c .before .before .before .pre .1))
 
 pub write-long-spec : {M : Type 1} → statement M
 write-long-spec = tie.close (tie.spec
@@ -23,4 +19,4 @@ write-long-spec = tie.close (tie.spec
     (λ c κs. search needs)  -- hex-digit-requires-2
     (λ c. simp length-set (omega arith))  -- out[5]
     (λ c. search needs)  -- same-length
-    returns)
+    (λ c. long-written _ (c .before .before .before .args .out .now) (c .before .hex-digit .ensures) (c .hex-digit2 .ensures) (omega arith)))  -- the digits

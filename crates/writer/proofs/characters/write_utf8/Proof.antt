@@ -8,48 +8,36 @@ use Rattle.writer.proofs.characters.Laws.{utf8-one, utf8-two, utf8-thre
 use Rattle.writer.proofs.characters.write_utf8.Statement.{statement}
 use Rattle.writer.proofs.characters.write_utf8.Tie as tie
 
-returns : tie.Need-returns
-returns c = over-as _ (utf8-one _ (c .if1 .taken)) (c .before .pre .1)
-
-returns-2 : tie.Need-returns-2
-returns-2 c = over-as _ (utf8-two _ (omega arith) (c .if2 .taken)) (c .before .before .pre .1)
-
-returns-3 : tie.Need-returns-3
-returns-3 c = over-as _ (utf8-three _ (omega arith) (c .if3 .taken)) (c .before .before .before .pre .1)
-
-returns-4 : tie.Need-returns-4
-returns-4 c = over-as _ (utf8-four _ (c .if3 .left)) (c .before .before .before .pre .1)
-
 pub write-utf8-spec : {M : Type 1} → statement M
 write-utf8-spec = tie.close (tie.spec
     (λ c. search needs)  -- c as u8
     (λ c. omega (arith, ap length (utf8-one _ (c .if1 .taken))))  -- out[0]
     (λ c. search needs)  -- same-length
-    returns
+    (λ c. over-as _ (utf8-one _ (omega arith)) (omega arith))  -- one byte
+    (λ c. search needs)  -- (c % 64) as u8
     (λ c. search needs)  -- last
-    (λ c. search needs)
-    (λ c. search needs)  -- two bytes
-    (λ c. search needs)
-    (λ c. omega (arith, ap length (utf8-two _ (omega arith) (c .if2 .taken))))
-    (λ c. simp length-set (omega (arith, ap length (utf8-two _ (omega arith) (c .if2 .taken)))))
+    (λ c. search needs)  -- (c / 64) as u8
+    (λ c. search needs)  -- 0xc0 + ..
+    (λ c. omega (arith, ap length (utf8-two _ (omega arith) (c .if2 .taken))))  -- out[0]
+    (λ c. simp length-set (omega (arith, ap length (utf8-two _ (omega arith) (c .if2 .taken)))))  -- out[1]
     (λ c. search needs)  -- same-length-2
-    returns-2
+    (λ c. over-as _ (utf8-two _ (omega arith) (omega arith)) (omega arith))  -- two bytes
+    (λ c. search needs)  -- (c / 64 % 64) as u8
     (λ c. search needs)  -- third
-    (λ c. search needs)
-    (λ c. search needs)  -- three bytes
-    (λ c. search needs)
-    (λ c. omega (arith, ap length (utf8-three _ (omega arith) (c .if3 .taken))))
-    (λ c. simp length-set (omega (arith, ap length (utf8-three _ (omega arith) (c .if3 .taken)))))
-    (λ c. simp length-set (omega (arith, ap length (utf8-three _ (omega arith) (c .if3 .taken)))))
+    (λ c. search needs)  -- (c / 4096) as u8
+    (λ c. search needs)  -- 0xe0 + ..
+    (λ c. omega (arith, ap length (utf8-three _ (omega arith) (c .if3 .taken))))  -- out[0]
+    (λ c. simp length-set (omega (arith, ap length (utf8-three _ (omega arith) (c .if3 .taken)))))  -- out[1]
+    (λ c. simp length-set (omega (arith, ap length (utf8-three _ (omega arith) (c .if3 .taken)))))  -- out[2]
     (λ c. search needs)  -- same-length-3
-    returns-3
-    (λ c. search needs)  -- four bytes
-    (λ c. search needs)
-    (λ c. omega (arith, ap length (utf8-four _ (c .if3 .left))))
-    (λ c. search needs)
-    (λ c. search needs)
-    (λ c. simp length-set (omega (arith, ap length (utf8-four _ (c .if3 .left)))))
-    (λ c. simp length-set (omega (arith, ap length (utf8-four _ (c .if3 .left)))))
-    (λ c. simp length-set (omega (arith, ap length (utf8-four _ (c .if3 .left)))))
+    (λ c. over-as _ (utf8-three _ (omega arith) (omega arith)) (omega arith))  -- three bytes
+    (λ c. search needs)  -- (c / 262144) as u8
+    (λ c. search needs)  -- 0xf0 + ..
+    (λ c. omega (arith, ap length (utf8-four _ (c .if3 .left))))  -- out[0]
+    (λ c. search needs)  -- (c / 4096 % 64) as u8
+    (λ c. search needs)  -- 0x80 + ..
+    (λ c. simp length-set (omega (arith, ap length (utf8-four _ (c .if3 .left)))))  -- out[1]
+    (λ c. simp length-set (omega (arith, ap length (utf8-four _ (c .if3 .left)))))  -- out[2]
+    (λ c. simp length-set (omega (arith, ap length (utf8-four _ (c .if3 .left)))))  -- out[3]
     (λ c. search needs)  -- same-length-4
-    returns-4)
+    (λ c. over-as _ (utf8-four _ (omega arith)) (omega arith)))  -- four bytes

@@ -1,5 +1,6 @@
 -- `writer::pieces::measure_stretch` meets its contract: each way by the law of its piece.
-use mathlib.Core.Path.{sym, _∙_}
+use mathlib.Core.List.{[]}
+use native.Mathlib.Omega.{arith}
 use borrow.Author.Needs.{needs}
 use Rattle.chars.proofs.Facts.{run-from}
 use Rattle.writer.specs.Runs.{isOrdinary}
@@ -7,28 +8,18 @@ use Rattle.writer.proofs.pieces.Laws.{ordinary-piece, escape-piece, no-
 use Rattle.writer.proofs.pieces.measure_stretch.Statement.{statement}
 use Rattle.writer.proofs.pieces.measure_stretch.Tie as tie
 
-returns : tie.Need-returns
-returns c = let d = c .before in ordinary-piece _ _ (λ e. d .if1 .taken (d .before .peek .ensures ∙ e)) _ (c .ordinary-end .ensures)
-
-returns-2 : tie.Need-returns-2
-returns-2 c =
-    let d = c .before .before .before .before in
-    let x = c .before .before .value .given in
-    escape-piece _ _ (sym (d .before .before .peek .ensures) ∙ d .before .if1 .left) _ (sym (x .1) ∙ d .char-at .ensures) _ (c .char-len .ensures)
-
-returns-3 : tie.Need-returns-3
-returns-3 c =
-    let d = c .before in
-    no-bytes _ _ (sym (d .before .before .peek .ensures) ∙ d .before .if1 .left) _ (d .char-at .ensures) (c .match .keys2) .0
+-- where an escape was read
+abbrev read : tie.After-char-len → tie.After-char-at
+read c = c .before .before .before .before
 
 pub measure-stretch-spec : {M : Type 1} → statement M
 measure-stretch-spec = tie.close (tie.spec
     (λ c κs. search needs)  -- peek-requires
     (λ c κs. search needs)  -- ordinary-end-requires
     (λ c. rw (c .ordinary-end .ensures) (run-from isOrdinary _ _))  -- end - at
-    returns
+    (λ c. ordinary-piece _ _ (omega arith) (c .ordinary-end .ensures))  -- bytes that are copied
     (λ c κs. search needs)  -- char-at-requires
     (λ c. search needs)  -- enum-known-value
     (λ c κs. search needs)  -- char-len-requires
-    returns-2
-    returns-3)
+    (λ c. escape-piece _ _ (omega arith) (read c .char-at .ensures) (c .before .before .value .given .1) (c .char-len .ensures))  -- an escape
+    (λ c. no-bytes _ _ (omega arith) _ (c .before .char-at .ensures) (c .match .keys2) [] .0))  -- none

@@ -1,49 +1,51 @@
 -- `writer::writing::measure` meets its contract. The loop's invariant: n bytes are written for the tokens up to i, where the next one stands.
-use Prim.Native.Nat.{ℕ, _+_, _-_, _<_}
-use mathlib.Core.List.{List, [], _∷_, _++_}
+use Prim.Native.Nat.{_-_}
 use native.Mathlib.Omega.{arith}
 use lib.ListN.{length}
 use borrow.Author.Needs.{needs}
-use Rattle.chars.specs.Bytes.{byteAt}
-use Rattle.writer.specs.Tokens.{tokenBytes}
 use Rattle.writer.proofs.Tokens.{tokens-string}
-use Rattle.writer.proofs.writing.Laws.{Along, along-none, along-small, along-end, along-string, along-byte}
+use Rattle.writer.proofs.writing.Laws.{Along, along-none, along-end, along-string, string-less, along-byte, byte-less}
 use Rattle.writer.proofs.writing.measure.Statement.{statement}
 use Rattle.writer.proofs.writing.measure.Tie as tie
 
 abbrev Inv : tie.InvT-loop
-Inv text i₀ n₀ i n = (done : List ℕ) × Along text i n done
+Inv text i₀ n₀ i n = Along text i n
 
 abbrev μ : tie.MeasureT-loop
 μ text i₀ n₀ i n = length text - i
 
--- behind a string
-string : (c : tie.After-struct-known Inv μ) → let l = c .before .before .before .before .before .before in let s = l .before .before .before .args .text .now in
-    (l .loop .i < c .before .skip2 .result) × Along s (c .before .skip2 .result) (l .loop .n + c .before .before .measure-string .result .len) (l .loop .inv .0 ++ tokenBytes s (l .loop .i))
+-- the turn of the loop in which a string was measured
+abbrev turn : tie.After-measure-string Inv μ → tie.At-loop Inv μ
+turn c = c .before .before .before .before
+
+-- behind it: the invariant again, and less of the text is left
+string : tie.Need-loop-again Inv μ
 string c =
-    let d = c .before .before .before in
-    along-string (d .before .before .before .loop .inv .1) (d .before .before .loop-test .taken) (d .if1 .taken) (c .before .before .measure-string .ensures) (c .before .skip2 .ensures)
+    let d = c .before .before in
+    along-string (turn d .loop .inv) (omega arith) (omega arith) (d .measure-string .ensures) (c .before .skip2 .ensures)
+
+less : tie.Need-loop-less Inv μ
+less c =
+    let d = c .before .before in
+    string-less (turn d .loop .inv) (omega arith) (omega arith) (d .measure-string .ensures) (c .before .skip2 .ensures)
 
 -- behind another byte
-byte : (c : tie.After-skip3 Inv μ) → let l = c .before .before .before .before in let s = l .before .before .before .args .text .now in
-    (l .loop .i < c .skip3 .result) × Along s (c .skip3 .result) (l .loop .n + 1) (l .loop .inv .0 ++ (byteAt s (l .loop .i) ∷ []))
-byte c =
-    let d = c .before in
-    along-byte (d .before .before .before .loop .inv .1) (d .before .before .loop-test .taken) (d .if1 .left) (c .skip3 .ensures)
+byte : tie.Need-loop-again-2 Inv μ
+byte c = along-byte (c .before .before .before .before .loop .inv) (omega arith) (omega arith) (c .skip3 .ensures)
 
 pub measure-spec : {M : Type 1} → statement M
 measure-spec = tie.close (tie.spec Inv μ
     (λ c κs. search needs)  -- skip-requires
-    (λ c. ([], along-none (c .before .before .pre .tokens) (c .skip .ensures)))  -- loop-holds
+    (λ c. along-none (c .before .before .pre .tokens) (c .skip .ensures))  -- loop-holds
     (λ c. omega arith)  -- text[i]
-    (λ c κs. tokens-string (c .before .before .before .loop .inv .1 .tokens) (c .if1 .taken) .is-quoted)  -- measure-string-requires
+    (λ c κs. tokens-string (c .before .before .before .loop .inv .tokens) (c .if1 .taken) .is-quoted)  -- measure-string-requires
     (λ c κs. search needs)  -- skip-requires-2
-    (λ c. omega (arith, along-small (string c .1)))  -- n + p.len
-    (λ c. omega (arith, string c .0))  -- loop-less
-    (λ c. (_, string c .1))  -- loop-again
+    (λ c. omega (arith, string c .small))  -- n + p.len
+    less
+    string
     (λ c. omega arith)  -- i + 1
     (λ c κs. search needs)  -- skip-requires-3
-    (λ c. omega (arith, along-small (byte c .1)))  -- n + 1
-    (λ c. omega (arith, byte c .0))  -- loop-less-2
-    (λ c. (_, byte c .1))  -- loop-again-2
-    (λ c w k. along-end (c .before .loop .inv .1) (c .loop-test .left) k .0))  -- the text ended
+    (λ c. omega (arith, byte c .small))  -- n + 1
+    (λ c. byte-less (c .before .before .before .before .loop .inv) (omega arith) (omega arith) (c .skip3 .ensures))  -- loop-less-2
+    byte
+    (λ c. along-end (c .before .loop .inv) (c .loop-test .left)))  -- the text ended

@@ -1,74 +1,40 @@
 -- `writer::writing::write` meets its contract. The loop's invariant: the tokens up to i are written, n bytes, and the next one stands at i.
-use Prim.Native.Nat.{ℕ, _+_, _-_, _<_, _≤_}
-use mathlib.Core.Path.{_≡_, ap, _∙_}
-use mathlib.Core.List.{List, [], _++_}
+use Prim.Native.Nat.{_-_}
 use native.Mathlib.Omega.{arith}
 use lib.ListN.{length}
 use borrow.Author.Needs.{needs}
-use Rattle.writer.specs.declared.pieces.Piece.{Piece}
-use Rattle.writer.specs.Compact.{over}
-use Rattle.writer.specs.Tokens.{tokenBytes}
-use Rattle.writer.proofs.Over.{Wrote, wrote-none, wrote-length, left-length, wrote-more}
-use Rattle.writer.proofs.writing.Laws.{Along, along-none, along-whole, along-small, along-end, along-ready, along-token}
+use Rattle.writer.proofs.writing.Laws.{token-less, AlongBuffer, buffer-none, buffer-end, buffer-lends, buffer-token}
 use Rattle.writer.proofs.writing.write.Statement.{statement}
 use Rattle.writer.proofs.writing.write.Tie as tie
 
 abbrev Inv : tie.InvT-loop
-Inv text out₀ i₀ n₀ out i n = (done : List ℕ) × Along text i n done × Wrote out₀ n out done
+Inv text out₀ i₀ n₀ out i n = AlongBuffer text out₀ i n out
 
 abbrev μ : tie.MeasureT-loop
 μ text out₀ i₀ n₀ out i n = length text - i
 
--- at the loop: there is room for what is still to be written
-module _ (l : tie.At-loop Inv μ) where
-  pub room : l .loop .n + length (l .loop .inv .1 .rest) ≤ length (l .before .before .before .before .args .out .now)
-  room = let p = l .before .before .before .before .pre in omega (arith, along-whole (l .loop .inv .1) (p .tokens), p .fits)
+-- where a token was written, and the turn of the loop in which it was
+abbrev told : tie.After-struct-known Inv μ → tie.After-write-token Inv μ
+told c = c .before .before .before .before
 
-  pub same : length (l .loop .out) ≡ length (l .before .before .before .before .args .out .now)
-  same = wrote-length (l .loop .inv .2) (omega (arith, room))
+abbrev turn : tie.After-write-token Inv μ → tie.At-loop Inv μ
+turn c = c .before .before .before
 
-ready : tie.Need-write-token-requires Inv μ
-ready c κs =
-    let l = c .before .before in
-    along-ready (l .loop .inv .1) (c .before .loop-test .taken) _ (omega (arith, room l, left-length (l .loop .inv .2) (omega (arith, room l))))
-
--- a turn of the loop
-module _ (c : tie.After-struct-known Inv μ) where
-  abbrev pub at : tie.At-loop Inv μ
-  at = c .before .before .before .before .before .before .before
-
-  abbrev pub told : Piece
-  told = c .before .before .before .before .write-token .result
-
-  pub passed : let s = at .before .before .before .before .args .text .now in (at .loop .i < c .before .skip2 .result)
-      × Along s (c .before .skip2 .result) (at .loop .n + told .len) (at .loop .inv .0 ++ tokenBytes s (at .loop .i))
-  passed =
-      let d = c .before .before .before .before in
-      along-token (at .loop .inv .1) (d .before .before .loop-test .taken) (d .write-token .ensures .0) (c .before .skip2 .ensures)
-
-loop-again : tie.Need-loop-again Inv μ
-loop-again c =
-    let l = at c in
-    let r = c .before .before .before .before .write-token .ensures in
-    (_, passed c .1, wrote-more (l .loop .inv .2) (omega (arith, room l)) _ (ap (λ (p : Piece). p .len) (r .0)) (r .1))
-
-returns : tie.Need-returns Inv μ
-returns c =
-    let l = c .before in
-    λ w k. let e = along-end (l .loop .inv .1) (c .loop-test .left) k in
-    (e .0, l .loop .inv .2 .holds ∙ ap (λ (x : List ℕ). over x (l .before .before .before .before .args .out .now)) (e .1))
+-- behind the token
+again : tie.Need-loop-again Inv μ
+again c = buffer-token (turn (told c) .loop .inv) (omega arith) (told c .write-token .ensures) (c .before .skip2 .ensures)
 
 pub write-spec : {M : Type 1} → statement M
 write-spec = tie.close (tie.spec Inv μ
     (λ c κs. search needs)  -- skip-requires
-    (λ c. ([], along-none (c .before .before .before .pre .tokens) (c .skip .ensures), wrote-none _))  -- loop-holds
-    (λ c. omega (arith, room (c .before), same (c .before)))  -- n ≤ out.len()
-    (λ c. omega (arith, room (c .before), same (c .before)))
-    (λ c. omega (arith, room (c .before), same (c .before)))
-    ready
+    (λ c. buffer-none (c .before .before .before .pre) (c .skip .ensures))  -- loop-holds
+    (λ c. omega arith)  -- n ≤ out.len()
+    (λ c. omega arith)
+    (λ c. omega arith)
+    (λ c κs. buffer-lends (c .before .before .loop .inv) (omega arith))  -- write-token-requires
     (λ c κs. search needs)  -- skip-requires-2
-    (λ c. omega (arith, along-small (passed c .1)))  -- n + p.len
-    (λ c. omega (arith, passed c .0))  -- loop-less
-    loop-again
-    (λ c. same (c .before))  -- same-length
-    returns)
+    (λ c. omega (arith, again c .along .small))  -- n + p.len
+    (λ c. token-less (turn (told c) .loop .inv .along) (omega arith) (told c .write-token .ensures .0) (c .before .skip2 .ensures))  -- loop-less
+    again
+    (λ c. c .before .loop .inv .same)  -- same-length
+    (λ c. buffer-end (c .before .loop .inv) (c .loop-test .left)))  -- the text ended
