@@ -23,14 +23,14 @@ unfoldable pub stringAt : List ℕ → ℕ → Scan
 stringAt s i = stringFrom (length s - i) s i
 
 -- the scalar values up to a quote, an offence or the end
-abbrev pub spell : (ℕ → List ℕ) → Step → List ℕ
-spell more (Char v j) = v ∷ more j
-spell more Quote = []
-spell more (Refused c p) = []
+abbrev pub valuesOn : (ℕ → List ℕ) → Step → List ℕ
+valuesOn more (Char v j) = v ∷ more j
+valuesOn more Quote = []
+valuesOn more (Refused c p) = []
 
 unfoldable pub charsFrom : ℕ → List ℕ → ℕ → List ℕ
 charsFrom zero s i = []
-charsFrom (suc k) s i = spell (λ j. charsFrom k s j) (charAt s i)
+charsFrom (suc k) s i = valuesOn (λ j. charsFrom k s j) (charAt s i)
 
 unfoldable pub charsAt : List ℕ → ℕ → List ℕ
 charsAt s i = charsFrom (length s - i) s i

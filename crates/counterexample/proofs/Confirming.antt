@@ -45,7 +45,8 @@ formed {s = s} {a} x = definition-formed (valueOf s (x .tree)) (read-json 16384 
 
 -- ---- what Check answers on a document that is read as the tree n, with room, under a schema with the definition a
 
-module _ (d : List ℕ) (n : Node) (e : ℕ) (q : readDocument d ≡ parsed n e) (w₁ : ℕ) (room : size n ≤ rowsIn w₁) {w₂ : ℕ} {s : List ℕ} {a : Def} (x : Schema w₂ s a) where
+module _ (d : List ℕ) (n : Node) (e : ℕ) (q : readDocument d ≡ parsed n e) (w₁ : ℕ) (room : size n ≤ rowsIn w₁)
+    {w₂ : ℕ} {s : List ℕ} {a : Def} (x : Schema w₂ s a) where
   located : (l : Located) × (checkAnswer w₁ w₂ d s ≡ mismatchAnswer (mismatchAt d l n)) × (bare l ≡ a)
   unfolding checkAnswer accept
   located =

@@ -169,7 +169,8 @@ mutual
       let j = joined-costs r o in
       let x = part-costs ms (text "required") in
       let y = part-costs ms (text "optional") in
-      (omega (arith, j .0, parts-size ms (text "required") (text "optional") refl, object-length ms), omega (arith, j .1, x .1, y .1), omega (arith, j .2, x .2, y .2))
+      let z = parts-size ms (text "required") (text "optional") refl in
+      (omega (arith, j .0, z, object-length ms), omega (arith, j .1, x .1, y .1), omega (arith, j .2, x .2, y .2))
 
   -- two parts of different names
   parts-size : (ms : Members) (k l : List ℕ) → same k l ≡ false → sizeIfFields (fieldsUnder k ms) + sizeIfFields (fieldsUnder l ms) ≤ weightOfMembers ms

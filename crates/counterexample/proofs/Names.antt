@@ -14,7 +14,7 @@ use Rattle.syntax.specs.Grammar.{nameOf, readText}
 use Rattle.syntax.specs.Spelling.{scalarOf, valueOf, valuesOf, membersOf}
 use Rattle.syntax.proofs.Facts.{Rule, value-rule, read-begins}
 use Rattle.writer.specs.Spell.{spellChars}
-use Rattle.writer.proofs.Stretches.{chars-fit}
+use Rattle.writer.proofs.Facts.{chars-fit}
 use Rattle.counterexample.specs.Names.{longestName, longestOfAll, longestOfMembers, longestRead, longestReadIn, longestReadUnder}
 
 -- `omega` takes few of these at once
@@ -46,7 +46,8 @@ module _ (s : List ℕ) where
   -- ---- members
 
   module _ (k : ℕ) where
-    under-most : (ms : Members) (f e : ℕ) (n : Node) → longestReadUnder (addMember ms f e n) ≤ k → (longestReadUnder ms ≤ k) × (e - f - 2 ≤ k) × (longestRead n ≤ k)
+    under-most : (ms : Members) (f e : ℕ) (n : Node) → longestReadUnder (addMember ms f e n) ≤ k
+        → (longestReadUnder ms ≤ k) × (e - f - 2 ≤ k) × (longestRead n ≤ k)
     under-most no-member f e n h = let x = each-of (e - f - 2) (longestRead n) 0 k h in (omega arith, x .0, x .1)
     under-most (member g i m ms) f e n h =
         let x = each-of (i - g - 2) (longestRead m) (longestReadUnder (addMember ms f e n)) k h in

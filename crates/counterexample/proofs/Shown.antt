@@ -12,7 +12,7 @@ use Rattle.syntax.proofs.Theorems.{read-short}
 use Rattle.grammar.proofs.Theorems.{reads-written}
 use Rattle.writer.specs.Spell.{spell}
 use Rattle.writer.specs.Depth.{depthOf}
-use Rattle.writer.proofs.Depths.{text-depth}
+use Rattle.writer.proofs.Facts.{text-depth}
 use Rattle.writer.proofs.Theorems.{spelled-short}
 use Rattle.comparison.specs.Comparing.{Schema}
 use Rattle.counterexample.specs.Names.{longestName, longestRead}

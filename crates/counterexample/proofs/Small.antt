@@ -10,7 +10,8 @@ use Rattle.model.specs.Text.{same}
 use Rattle.model.specs.Value.{Value, null, vnil, vcons, Members, mcons}
 use Rattle.model.specs.Definition.{Named, JSON, Schema, Float, Integer, String, Boolean, DateTime, Def, named, array-of, map-of, object-of, Fields, fnil, fcons}
 use Rattle.model.specs.Subtype.{fieldOr, ofObjects, other, under, requires, subtype}
-use Rattle.model.specs.Witness.{plainValue, apart, sample, kept, following, behind, rarer, avoiding, names, ownNames, fresh, others, withMember, beyondNamed, witness, witnessFields}
+use Rattle.model.specs.Witness.{plainValue, apart, sample, kept, following, behind, rarer, avoiding, names}
+use Rattle.model.specs.Witness.{ownNames, fresh, others, withMember, beyondNamed, witness, witnessFields}
 use Rattle.model.proofs.Basics.{both, by-test}
 use Rattle.model.proofs.Samples.{avoiding-short, fresh-under}
 use Rattle.grammar.specs.Utf8.{utf8}

@@ -41,9 +41,9 @@ pub data Defined (A : Type 0) : Type 0 where
   faulty : ℕ → ℕ → Defined A
   fine : A → Defined A
 
-abbrev pub mapped : {A B : Type 0} → (A → B) → Defined A → Defined B
-mapped f (faulty c p) = faulty c p
-mapped f (fine a) = fine (f a)
+abbrev pub ifFine : {A B : Type 0} → (A → B) → Defined A → Defined B
+ifFine f (faulty c p) = faulty c p
+ifFine f (fine a) = fine (f a)
 
 -- "Another string [..]: 11."
 abbrev pub typeAt : ℕ → Option Named → Defined Located
@@ -51,22 +51,22 @@ typeAt p none = faulty 11 p
 typeAt p (some t) = fine (named-at p t)
 
 -- a string that is a type name; "Other kinds: 10."
-abbrev pub scalarAt : List ℕ → Kind → ℕ → ℕ → Defined Located
-scalarAt s Null f e = faulty 10 f
-scalarAt s False f e = faulty 10 f
-scalarAt s True f e = faulty 10 f
-scalarAt s Whole f e = faulty 10 f
-scalarAt s Fractional f e = faulty 10 f
-scalarAt s Quoted f e = typeAt f (namedBy (nameOf s f e))
+abbrev pub scalarDefinition : List ℕ → Kind → ℕ → ℕ → Defined Located
+scalarDefinition s Null f e = faulty 10 f
+scalarDefinition s False f e = faulty 10 f
+scalarDefinition s True f e = faulty 10 f
+scalarDefinition s Whole f e = faulty 10 f
+scalarDefinition s Fractional f e = faulty 10 f
+scalarDefinition s Quoted f e = typeAt f (namedBy (nameOf s f e))
 
 abbrev pub isLast : Members → Bool
 isLast no-member = true
 isLast (member f e n ms) = false
 
 -- a further field, where it and the others are defined: a fault of it comes first
-abbrev pub added : ℕ → List ℕ → Defined Located → Defined LocatedFields → Defined LocatedFields
-added p n (faulty c q) fs = faulty c q
-added p n (fine d) fs = mapped (field p n d) fs
+abbrev pub addedAt : ℕ → List ℕ → Defined Located → Defined LocatedFields → Defined LocatedFields
+addedAt p n (faulty c q) fs = faulty c q
+addedAt p n (fine d) fs = ifFine (field p n d) fs
 
 -- some member has the name n
 abbrev pub hasNamed : List ℕ → List ℕ → Members → Bool
@@ -86,7 +86,7 @@ pub data Part : Type 0 where
 -- "then the definitions of "required" in order, then of "optional""
 abbrev pub bothFields : ℕ → Defined LocatedFields → Defined LocatedFields → Defined Located
 bothFields p (faulty c q) o = faulty c q
-bothFields p (fine r) o = mapped (object-at p r) o
+bothFields p (fine r) o = ifFine (object-at p r) o
 
 -- code 12, for a name both required and optional, at its opening quote under "optional"
 abbrev pub unshared : Option ℕ → Defined Located → Defined Located
@@ -100,23 +100,23 @@ joinedAt s p (members-with ms r) (wrong q) = faulty 10 q
 joinedAt s p (members-with ms r) (members-with ns o) = unshared (sharedAt s ms ns) (bothFields p r o)
 
 -- the definition at p with the one member of the name n, whose opening quote is at q: d is the member's value as a definition, o as the body of an Object
-abbrev pub constructed : ℕ → ℕ → List ℕ → Defined Located → Defined Located → Defined Located
-constructed p q n d o =
-    cond (same n (text "Array")) (mapped (array-at p) d)
-    (cond (same n (text "Map")) (mapped (map-at p) d)
+abbrev pub constructedAt : ℕ → ℕ → List ℕ → Defined Located → Defined Located → Defined Located
+constructedAt p q n d o =
+    cond (same n (text "Array")) (ifFine (array-at p) d)
+    (cond (same n (text "Map")) (ifFine (map-at p) d)
     (cond (same n (text "Object")) o (faulty 11 q)))
 
 -- the definition that the value at a place is, or its first fault
 abbrev mutual
   pub definitionAt : List ℕ → Node → Defined Located
-  definitionAt s (scalar k f e) = scalarAt s k f e
+  definitionAt s (scalar k f e) = scalarDefinition s k f e
   definitionAt s (array f e ns) = faulty 10 f
   definitionAt s (object f e ms) = singleAt s f ms
 
   -- "An object with no member, or with more than one: 10."
   pub singleAt : List ℕ → ℕ → Members → Defined Located
   singleAt s p no-member = faulty 10 p
-  singleAt s p (member f e n ms) = cond (isLast ms) (constructed p f (nameOf s f e) (definitionAt s n) (bodyAt s p n)) (faulty 10 p)
+  singleAt s p (member f e n ms) = cond (isLast ms) (constructedAt p f (nameOf s f e) (definitionAt s n) (bodyAt s p n)) (faulty 10 p)
 
   -- "Under Object stands an object"; its other members are ignored
   pub bodyAt : List ℕ → ℕ → Node → Defined Located
@@ -138,7 +138,7 @@ abbrev mutual
   -- "with a definition under each name"
   pub fieldsAt : List ℕ → Members → Defined LocatedFields
   fieldsAt s no-member = fine no-field
-  fieldsAt s (member f e n ms) = added f (nameOf s f e) (definitionAt s n) (fieldsAt s ms)
+  fieldsAt s (member f e n ms) = addedAt f (nameOf s f e) (definitionAt s n) (fieldsAt s ms)
 
 -- ---- for private contracts: the first fault, as the code has it
 

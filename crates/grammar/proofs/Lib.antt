@@ -25,3 +25,4 @@ pub mod Places
 pub mod ReadAnswers
 pub mod Theorems
 pub mod Examples
+pub mod Facts

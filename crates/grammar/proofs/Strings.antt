@@ -10,7 +10,7 @@ use borrow.Author.Tests.{eqb-true, eqb-false}
 use Rattle.model.proofs.Basics.{clash, by-test}
 use Rattle.chars.specs.Bytes.{byteAt}
 use Rattle.chars.specs.Characters.{charAt}
-use Rattle.chars.specs.Strings.{stringAt, charsAt, part, spell}
+use Rattle.chars.specs.Strings.{stringAt, charsAt, part, valuesOn}
 use Rattle.chars.specs.declared.characters.Step.{Step}
 use Rattle.chars.specs.declared.characters.Step.the-variants.{Char, Quote, Refused}
 use Rattle.chars.specs.declared.strings.Scan.{Scan}
@@ -120,7 +120,7 @@ chars-read : (s : List ℕ) {w vs : List ℕ} → IsChars w vs → (i : ℕ) →
 chars-read s no-char i a =
     let q = char-quote s i (a .0) in
     let z : i + 1 ≡ i + 0 + 1 = omega arith in
-    (string-quote s i q ∙ ap Ends z, chars-step s i ∙ ap (spell (charsAt s)) q)
+    (string-quote s i q ∙ ap Ends z, chars-step s i ∙ ap (valuesOn (charsAt s)) q)
 chars-read s (char {w} {r} {v} {vs} c h) i a =
     let a₂ = rw (append-assoc w r (0x22 ∷ [])) at a in
     let a₃ = at-first s i w (r ++ (0x22 ∷ [])) a₂ in

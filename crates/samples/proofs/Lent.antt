@@ -6,7 +6,7 @@ use native.Mathlib.Omega.{arith}
 use lib.ListN.{length, length-append, set, length-set}
 use borrow.Rule.Slice.PartMut.{midOf, putMid}
 use Rattle.writer.specs.Compact.{over}
-use Rattle.writer.proofs.Over.{Wrote, wrote-length, left-length, wrote-more, wrote-last}
+use Rattle.writer.proofs.Facts.{Wrote, wrote-length, left-length, wrote-more, wrote-last}
 use Rattle.samples.specs.Writing.{Writes}
 
 -- what is left of a buffer behind n bytes, and the buffer when what is left has become y

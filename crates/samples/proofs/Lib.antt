@@ -1,2 +1,3 @@
--- For the writers: the fields of a row (Fields), what is lent and written, piece by piece (Lent).
+-- For the writers: what is lent and written, piece by piece (Lent).
 pub mod Lent
+pub mod Facts

@@ -9,7 +9,7 @@ use mir.Syntax.{w64}
 use mir.Val.{Fits}
 use Rattle.syntax.specs.declared.answers.Answer.{Answer}
 use Rattle.writer.specs.Compact.{compactAnswer}
-use Rattle.writer.proofs.Answers.{compact-fits}
+use Rattle.writer.proofs.Facts.{compact-fits}
 
 module _ (n : ℕ) (m : n ≤ 65536) where
   pub count-fits : Fits w64 n

@@ -18,11 +18,8 @@ use Rattle.chars.proofs.Facts.{char-next}
 use Rattle.grammar.specs.Utf8.{IsUtf8, utf8-1, utf8-2, utf8-3, utf8-4, utf8}
 use Rattle.grammar.specs.Written.{IsUnescaped, IsHexDigit, decimal, upper, lower, hex, IsChar, unescaped, short, unicode, surrogates, IsShort}
 use Rattle.grammar.specs.Written.{quotation-mark, reverse-solidus, solidus, backspace, form-feed, line-feed, carriage-return, tab}
-use Rattle.grammar.proofs.Utf8.{three-bits, four-bits, utf8-only}
-use Rattle.grammar.proofs.Pieces.{At, Spelled}
-use Rattle.grammar.proofs.Trees.{Lang, Stepped, walk-sound}
-use Rattle.grammar.proofs.CharTrees.{charTree, char-quote, char-walk, char-good}
-use Rattle.grammar.proofs.Characters.{lang-char}
+use Rattle.grammar.proofs.Facts.{three-bits, four-bits, utf8-only, At, Spelled, Lang, Stepped, walk-sound, charTree, char-quote, char-walk}
+use Rattle.grammar.proofs.Facts.{char-good, lang-char}
 use Rattle.writer.specs.Spell.{isEscaped, letterOf, spellChar}
 use Rattle.writer.specs.Runs.{isOrdinary}
 

@@ -13,3 +13,4 @@ pub mod Over
 pub mod Answers
 pub mod Theorems
 pub mod Examples
+pub mod Facts

@@ -16,12 +16,12 @@ use Rattle.chars.specs.declared.strings.Scan.the-variants.{Ends}
 use Rattle.chars.specs.Bytes.{byteAt}
 use Rattle.chars.specs.Characters.{charAt}
 use Rattle.chars.specs.Runs.{run}
-use Rattle.chars.specs.Strings.{stringAt, charsAt, part, spell}
+use Rattle.chars.specs.Strings.{stringAt, charsAt, part, valuesOn}
 use Rattle.tokens.specs.Spelling.{IsQuoted}
 use Rattle.chars.proofs.Facts.{run-next, run-stop, run-from, char-next, string-char, string-quote, string-stop, string-bounds, string-close}
 use Rattle.chars.proofs.Facts.{chars-step, chars-char}
 use Rattle.tokens.proofs.Facts.{part-none, part-cons, part-join}
-use Rattle.grammar.proofs.Pieces.{At}
+use Rattle.grammar.proofs.Facts.{At}
 use Rattle.writer.specs.Spell.{spellChars}
 use Rattle.writer.specs.Runs.{isOrdinary, ordinaryEnd}
 use Rattle.writer.specs.Tokens.{stringBytes}
@@ -40,7 +40,7 @@ pub not-refused : (s : List ℕ) (i c p e : ℕ) → charAt s i ≡ Refused c p 
 not-refused s i c p e q h = never (cc (string-stop s i c p q))
 
 pub quote-ends : (s : List ℕ) (i e : ℕ) → charAt s i ≡ Quote → stringAt s i ≡ Ends e → (e ≡ i + 1) × (charsAt s i ≡ [])
-quote-ends s i e q h = (cc (string-quote s i q), chars-step s i ∙ ap (spell (charsAt s)) q)
+quote-ends s i e q h = (cc (string-quote s i q), chars-step s i ∙ ap (valuesOn (charsAt s)) q)
 
 pub quote-byte : (s : List ℕ) (i e : ℕ) → charAt s i ≡ Quote → stringAt s i ≡ Ends e → byteAt s i ≡ 0x22
 quote-byte s i e q h = let z : e - 1 ≡ i = omega (arith, quote-ends s i e q h .0) in rw z at (string-close s i e h .2)

@@ -11,7 +11,7 @@ use Rattle.model.specs.Text.{isScalar, isText}
 use Rattle.model.proofs.Basics.{both, by-test, and-ways, or-true, or-false}
 use Rattle.grammar.specs.Written.{IsUnescaped, IsShort, quotation-mark, reverse-solidus, backspace, form-feed, line-feed, carriage-return, tab}
 use Rattle.grammar.specs.Written.{IsHexDigit, decimal, lower, hex, IsChar, unescaped, short, unicode, IsChars, no-char, char, IsString}
-use Rattle.grammar.proofs.Utf8.{scalar-range, utf8-spelled}
+use Rattle.grammar.proofs.Facts.{scalar-range, utf8-spelled}
 use Rattle.writer.specs.Spell.{isEscaped, letterOf, hexDigit, longForm, escape, spellChar, spellChars, spellString}
 
 -- ---- escapes

@@ -23,10 +23,7 @@ use Rattle.syntax.specs.Spelling.{valueOf}
 use Rattle.grammar.specs.Written.{Language, IsSpace, IsStructural, structural, IsString, IsSeries, one, more, IsBracketed, empty, series}
 use Rattle.grammar.specs.Written.{values, IsArray, is-array, Member, IsMember, is-member, members, IsObject, is-object, IsLeaf, IsValue}
 use Rattle.grammar.specs.Written.{IsJsonText, is-text}
-use Rattle.grammar.proofs.Pieces.{At, at-first, at-second, at-behind}
-use Rattle.grammar.proofs.Strings.{string-reads}
-use Rattle.grammar.proofs.Numbers.{digit-bounds}
-use Rattle.grammar.proofs.NumberBytes.{number-all}
+use Rattle.grammar.proofs.Facts.{At, at-first, at-second, at-behind, string-reads, digit-bounds, number-all}
 use Rattle.grammar.proofs.Theorems.{reads-written}
 use Rattle.writer.specs.Spell.{spellString, spell, spellValues, spellMembers}
 use Rattle.writer.specs.Compact.{spelled}

@@ -9,7 +9,7 @@ use Rattle.chars.specs.declared.strings.Scan.{Scan}
 use Rattle.chars.specs.declared.strings.Scan.the-variants.{Ends, Stopped}
 use Rattle.chars.specs.declared.hashing.Hashed.the-variants.{Name, Broken}
 use Rattle.chars.specs.Characters.{charAt}
-use Rattle.chars.specs.Strings.{stringAt, charsAt, characters, part, spell}
+use Rattle.chars.specs.Strings.{stringAt, charsAt, characters, part, valuesOn}
 use Rattle.chars.specs.Hashing.{mix, finish, hashFrom, hashOf, hashedBy, hashedAt}
 use Rattle.chars.proofs.strings.Laws.{string-char, string-quote, string-stop, chars-step, chars-char}
 use Rattle.chars.proofs.strings.Parts.{body-characters}
@@ -68,7 +68,7 @@ module _ {s : List ℕ} {i h j : ℕ} (f : SoFar s i h j) where
 
   pub far-end : charAt s j ≡ Quote → hashedAt s i ≡ Name (j + 1) (finish h)
   far-end e =
-      let r : hashOf (charsAt s i) ≡ finish h = f .hashed ∙ ap (hashFrom h) (chars-step s j ∙ ap (spell (charsAt s)) e) in
+      let r : hashOf (charsAt s i) ≡ finish h = f .hashed ∙ ap (hashFrom h) (chars-step s j ∙ ap (valuesOn (charsAt s)) e) in
       hashed-ends s i (j + 1) (f .onward ∙ string-quote s j e) ∙ ap (Name (j + 1)) r
 
   pub far-stop : {c p : ℕ} → charAt s j ≡ Refused c p → hashedAt s i ≡ Broken c p

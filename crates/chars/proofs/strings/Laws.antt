@@ -15,7 +15,7 @@ use Rattle.chars.specs.declared.strings.Scan.{Scan}
 use Rattle.chars.specs.declared.strings.Scan.the-variants.{Ends, Stopped}
 use Rattle.chars.specs.Bytes.{byteAt}
 use Rattle.chars.specs.Characters.{charAt}
-use Rattle.chars.specs.Strings.{goOn, stringFrom, stringAt, spell, charsFrom, charsAt}
+use Rattle.chars.specs.Strings.{goOn, stringFrom, stringAt, valuesOn, charsFrom, charsAt}
 use Rattle.model.specs.Text.{same}
 use Rattle.chars.proofs.characters.Laws.{Scalar, Ahead, char-ahead, char-end}
 
@@ -32,12 +32,12 @@ go-same f g i (Char v j) h = h v j refl
 go-same f g i Quote h = refl
 go-same f g i (Refused c p) h = refl
 
-spell-same : (f g : ℕ → List ℕ) (st : Step) → ((v j : ℕ) → st ≡ Char v j → f j ≡ g j) → spell f st ≡ spell g st
+spell-same : (f g : ℕ → List ℕ) (st : Step) → ((v j : ℕ) → st ≡ Char v j → f j ≡ g j) → valuesOn f st ≡ valuesOn g st
 spell-same f g (Char v j) h = ap (_∷_ v) (h v j refl)
 spell-same f g Quote h = refl
 spell-same f g (Refused c p) h = refl
 
-no-char : (f : ℕ → List ℕ) (st : Step) → (tagOf the-type st ≡ 1) ⊎ (tagOf the-type st ≡ 2) → spell f st ≡ []
+no-char : (f : ℕ → List ℕ) (st : Step) → (tagOf the-type st ≡ 1) ⊎ (tagOf the-type st ≡ 2) → valuesOn f st ≡ []
 no-char f (Char v j) (inl e) = absurd (omega arith)
 no-char f (Char v j) (inr e) = absurd (omega arith)
 no-char f Quote h = refl
@@ -71,7 +71,7 @@ module _ (s : List ℕ) where
       ∙ go-same (λ j. stringFrom (length s) s j) (λ j. stringFrom (length s - j) s j) i (charAt s i)
       (λ v j e. string-enough (length s) (length s - j) j (omega arith) (omega arith))
 
-  pub chars-step : (i : ℕ) → charsAt s i ≡ spell (charsAt s) (charAt s i)
+  pub chars-step : (i : ℕ) → charsAt s i ≡ valuesOn (charsAt s) (charAt s i)
   unfolding charsAt charsFrom
   chars-step i =
       chars-enough (length s - i) (suc (length s)) i (omega arith) (omega arith)
@@ -88,11 +88,11 @@ module _ (s : List ℕ) where
   string-stop i c p e = string-step i ∙ ap (goOn (stringAt s) i) e
 
   pub chars-char : (i v j : ℕ) → charAt s i ≡ Char v j → charsAt s i ≡ v ∷ charsAt s j
-  chars-char i v j e = chars-step i ∙ ap (spell (charsAt s)) e
+  chars-char i v j e = chars-step i ∙ ap (valuesOn (charsAt s)) e
 
   -- no character, by the tag that the code looks at
   pub chars-none : (i : ℕ) (st : Step) → st ≡ charAt s i → (tagOf the-type st ≡ 1) ⊎ (tagOf the-type st ≡ 2) → charsAt s i ≡ []
-  chars-none i st e h = chars-step i ∙ ap (spell (charsAt s)) (sym e) ∙ no-char (charsAt s) st h
+  chars-none i st e h = chars-step i ∙ ap (valuesOn (charsAt s)) (sym e) ∙ no-char (charsAt s) st h
 
 -- a string ends behind its start and within the text, at a quote
 abbrev pub ScanAhead : List ℕ → ℕ → Scan → Type 0

@@ -9,7 +9,7 @@ use borrow.Author.Tests.{eqb-true}
 use Rattle.chars.specs.declared.characters.Step.{Step}
 use Rattle.chars.specs.declared.characters.Step.the-variants.{Char, Quote, Refused}
 use Rattle.chars.specs.Characters.{charAt}
-use Rattle.chars.specs.Strings.{spell, charsFrom, charsAt, characters}
+use Rattle.chars.specs.Strings.{valuesOn, charsFrom, charsAt, characters}
 use Rattle.model.specs.Text.{same}
 use Rattle.model.proofs.Basics.{never, same-of, by-test}
 use Rattle.chars.proofs.bytes.Laws.{and-ways}
@@ -32,7 +32,7 @@ abbrev pub Scalars : List ℕ → Type 0
 Scalars [] = Unit
 Scalars (v ∷ vs) = Scalar v × Scalars vs
 
-spelled : (s : List ℕ) (i : ℕ) (f : ℕ → List ℕ) → ((j : ℕ) → Scalars (f j)) → (st : Step) → Ahead s i st → Scalars (spell f st)
+spelled : (s : List ℕ) (i : ℕ) (f : ℕ → List ℕ) → ((j : ℕ) → Scalars (f j)) → (st : Step) → Ahead s i st → Scalars (valuesOn f st)
 spelled s i f h (Char v j) a = (a .2, h j)
 spelled s i f h Quote a = tt
 spelled s i f h (Refused c p) a = tt

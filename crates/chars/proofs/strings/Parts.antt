@@ -17,7 +17,7 @@ use Rattle.chars.specs.declared.strings.Scan.the-variants.{Ends, Stopped
 use Rattle.chars.specs.Bytes.{byteAt, from-to, codeOf, digit, escapeOf, lowest, highest, sixBits}
 use Rattle.chars.specs.Characters.{stopAt, wrongAt, hexPair, withPair, pairValue, partnerAt, restAt, unicodeAt, escapeAt}
 use Rattle.chars.specs.Characters.{twoAt, threeAt, fourAt, charFrom, charAt}
-use Rattle.chars.specs.Strings.{stringAt, charsAt, characters, part, spell}
+use Rattle.chars.specs.Strings.{stringAt, charsAt, characters, part, valuesOn}
 use Rattle.chars.proofs.bytes.Laws.{both, and-ways, outside}
 use Rattle.chars.proofs.characters.Laws.{Ahead, HexAhead, hex-ahead, partner-ahead, rest-ahead, unicode-ahead, char-ahead, char-end}
 use Rattle.chars.proofs.strings.Laws.{char-next, chars-step, chars-char, string-char, string-quote, string-stop, string-bounds}
@@ -193,7 +193,7 @@ module _ (s t : List ℕ) (d c : ℕ) (agree : (y x : ℕ) → x ≡ y + d → x
       (λ f. let r : Ends (x + 1) ≡ Ends (c + 1) = sym (string-quote s x f) ∙ e in
       let m : x + 1 ≡ c + 1 = cc in
       let u : charAt t y ≡ Refused 2 (length t) = char-end t y (omega arith) in
-      chars-step t y ∙ ap (spell (charsAt t)) u ∙ sym (chars-step s x ∙ ap (spell (charsAt s)) f))
+      chars-step t y ∙ ap (valuesOn (charsAt t)) u ∙ sym (chars-step s x ∙ ap (valuesOn (charsAt s)) f))
       (λ a p f. let r : Stopped a p ≡ Ends (c + 1) = sym (string-stop s x a p f) ∙ e in never (cc))
 
 pub part-characters : (s : List ℕ) (i c : ℕ) → stringAt s i ≡ Ends (c + 1) → characters (part s i c) ≡ charsAt s i

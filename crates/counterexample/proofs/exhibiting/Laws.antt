@@ -63,7 +63,15 @@ apart {w₁} {w₂} {s₁} {s₂} {r} h z = go (accept 1 w₁ s₁) (accept 2 w�
     go (not-accepted a) y i f g k = absurd (omega (arith, f .0, ap (λ (b : Answer). b .code) k))
     go (accepted d) (not-accepted a) i f g k = absurd (omega (arith, g .0, ap (λ (b : Answer). b .code) k))
     go (accepted d) (accepted e) i f g (inl k) = absurd (omega (arith, ap (λ (b : Answer). b .code) (k .0)))
-    go (accepted d) (accepted e) i f g (inr k) = record { is = k .0; new = d; old = e; accepts = i; takes-new = f .0; takes-old = g .0; differs = not-subtype (bare d) (bare e) (k .1) }
+    go (accepted d) (accepted e) i f g (inr k) = record {
+      is = k .0;
+      new = d;
+      old = e;
+      accepts = i;
+      takes-new = f .0;
+      takes-old = g .0;
+      differs = not-subtype (bare d) (bare e) (k .1);
+    }
 
 -- ---- the promise
 
@@ -72,7 +80,8 @@ module _ (s₁ s₂ t₁ t₂ buffer : List ℕ) where
   abbrev pub Promised : Answer → List ℕ → List ℕ → List ℕ → Type 0
   Promised r u₁ u₂ buffer₂ =
       Promises (length t₁) (length t₂) s₁ s₂ r buffer buffer₂
-      × ((u₁ ≡ tableUnlessShort (length buffer) t₁ (tableOf t₁ (readSchema s₁))) × (u₂ ≡ tableUnlessShort (length buffer) t₂ (compareTable (length t₁) t₂ s₁ s₂)))
+      × ((u₁ ≡ tableUnlessShort (length buffer) t₁ (tableOf t₁ (readSchema s₁)))
+      × (u₂ ≡ tableUnlessShort (length buffer) t₂ (compareTable (length t₁) t₂ s₁ s₂)))
 
   pub short : length buffer < 65536 → {r : Answer} → r ≡ answer 31 0 0 0 → Promised r t₁ t₂ buffer
   short l e = rw (lt-ltb (length buffer) 65536 l) (record { short = λ _. (e, refl); long = λ m. absurd (omega arith) }, (refl, refl))
@@ -85,7 +94,8 @@ pub record HasCompared (s₁ s₂ t₁ t₂ buffer : List ℕ) (c : Answer) (u�
   rows₂ : u₂ ≡ compareTable (length t₁) t₂ s₁ s₂
 
 pub has-compared : {s₁ s₂ t₁ t₂ buffer : List ℕ} → 65536 ≤ length buffer → {c : Answer} {u₁ u₂ : List ℕ}
-    → Compares (length t₁) (length t₂) s₁ s₂ c × ((u₁ ≡ tableOf t₁ (readSchema s₁)) × (u₂ ≡ compareTable (length t₁) t₂ s₁ s₂)) → HasCompared s₁ s₂ t₁ t₂ buffer c u₁ u₂
+    → Compares (length t₁) (length t₂) s₁ s₂ c × ((u₁ ≡ tableOf t₁ (readSchema s₁)) × (u₂ ≡ compareTable (length t₁) t₂ s₁ s₂))
+    → HasCompared s₁ s₂ t₁ t₂ buffer c u₁ u₂
 has-compared l h = record { long = l; compares = h .0; rows₁ = h .1 .0; rows₂ = h .1 .1 }
 
 module _ {s₁ s₂ t₁ t₂ buffer : List ℕ} {c : Answer} {u₁ u₂ : List ℕ} (h : HasCompared s₁ s₂ t₁ t₂ buffer c u₁ u₂) where

@@ -113,7 +113,8 @@ module _ (s t : List ℕ) where
 -- the row of its name
 failing-at : {s₁ s₂ t₁ t₂ : List ℕ} {r₁ r₂ : ℕ} {required : Bool} {v : ℕ} → FieldsFailing s₁ s₂ t₁ t₂ r₁ r₂ required v → FieldsPairing s₁ s₂ t₁ t₂ r₁ r₂ → 0 < v
     → InTable t₂ v × IsQuoted s₂ (word t₂ v 1) (word t₂ v 2)
-failing-at {s₂ = s₂} {t₂ = t₂} {r₂ = r₂} {required = required} {v = v} k p l = go (firstFailing required (bare (p .new .definition)) (bareFields (p .old .fields))) (k .tells p)
+failing-at {s₂ = s₂} {t₂ = t₂} {r₂ = r₂} {required = required} {v = v} k p l =
+    go (firstFailing required (bare (p .new .definition)) (bareFields (p .old .fields))) (k .tells p)
   where
     go : (x : Option (List ℕ × Def)) → Fails s₂ t₂ r₂ v x → InTable t₂ v × IsQuoted s₂ (word t₂ v 1) (word t₂ v 2)
     go none h = absurd (omega arith)
@@ -164,7 +165,8 @@ module _ {s₁ s₂ t₁ t₂ : List ℕ} {r₁ r₂ : ℕ} (i : PairingTo s₁ 
         abbrev second : Pairing s₁ s₂ t₁ t₂ r₁ r₂ → Option (List ℕ × Def)
         second p = firstFailing false (bare (p .new .definition)) (bareFields (old-object p .optional))
 
-        both : (p : Pairing s₁ s₂ t₁ t₂ r₁ r₂) → failingOf (bare (p .new .definition)) (first p) (second p) ≡ failing (bare (p .new .definition)) (bare (p .old .definition))
+        both : (p : Pairing s₁ s₂ t₁ t₂ r₁ r₂)
+            → failingOf (bare (p .new .definition)) (first p) (second p) ≡ failing (bare (p .new .definition)) (bare (p .old .definition))
         both p = rw (old-object p .is) (rw (sym (h .tells (p .new)) ∙ not-false b n) refl)
 
         first-fails : (p : Pairing s₁ s₂ t₁ t₂ r₁ r₂) → Fails s₂ t₂ r₂ w (first p)
@@ -173,7 +175,8 @@ module _ {s₁ s₂ t₁ t₂ : List ℕ} {r₁ r₂ : ℕ} (i : PairingTo s₁ 
             widened s₂ t₂ v r₂ w (first p) (object-less i f) (λ e. failing-absent e .tells q) (k .tells q)
 
         -- the name between its quotes is sought in the new definition: u is found
-        module _ (l : 0 < w) {x : Record} (q : Reads t₂ w x) {y : List ℕ} (z : y ≡ part s₂ (x .first + 1) (x .end - 1)) {u : ℕ} (g : FindsUnder s₁ t₁ r₁ (characters y) true u) where
+        module _ (l : 0 < w) {x : Record} (q : Reads t₂ w x) {y : List ℕ} (z : y ≡ part s₂ (x .first + 1) (x .end - 1))
+            {u : ℕ} (g : FindsUnder s₁ t₁ r₁ (characters y) true u) where
           sought : FindsUnder s₁ t₁ r₁ (nameOf s₂ (word t₂ w 1) (word t₂ w 2)) true u
           sought = rw (z, q .first, q .last) at g
 

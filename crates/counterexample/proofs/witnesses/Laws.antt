@@ -17,7 +17,7 @@ use Rattle.syntax.specs.Holding.{word}
 use Rattle.grammar.specs.Utf8.{utf8}
 use Rattle.writer.specs.Spell.{spell, spellChar}
 use Rattle.model.proofs.Basics.{never}
-use Rattle.writer.proofs.Over.{Wrote}
+use Rattle.writer.proofs.Facts.{Wrote}
 use Rattle.definitions.specs.Definitions.{Located, named-at, array-at, map-at, object-at, bare, bareFields}
 use Rattle.definitions.specs.Shapes.{genericIn, GenericRow}
 use Rattle.comparison.specs.Carrying.{Pairing, PairingTo, FieldPairing, Fails}
@@ -26,13 +26,13 @@ use Rattle.definitions.specs.declared.types.Generic.the-variants.{Array, Map, O
 use Rattle.definitions.proofs.types.Generic.{the-type}
 use Rattle.rows.proofs.Facts.{in-table}
 use Rattle.definitions.proofs.Facts.{in-name, in-array, in-map, in-object, same-definition}
-use Rattle.comparison.proofs.Facts.{array-less, array-pair, map-pair, map-less as map-rows}
+use Rattle.comparison.proofs.Facts.{array-less as array-rows, array-pair, map-pair, map-less as map-rows}
 use Rattle.definitions.proofs.Facts.{of-kind}
 use Rattle.samples.specs.Writing.{Writes, SampleReady, SampleWritten, BeyondReady}
 use Rattle.samples.specs.Writing.{BeyondWritten}
 use Rattle.counterexample.specs.Writing.{failing, failingValue, FailingName, WitnessReady, WitnessTo, WitnessWritten, MemberReady}
 use Rattle.counterexample.specs.Writing.{MemberWritten}
-use Rattle.samples.proofs.Lent.{leftOf, putBack, wrote, Lent, lent, lent-more, lent-last, last-same}
+use Rattle.samples.proofs.Facts.{leftOf, putBack, wrote, wrote-one, Lent, lent, lent-more, lent-last, last-same}
 use Rattle.counterexample.proofs.Failing.{shown, witness-object, witness-json}
 
 -- ---- the value of a pair
@@ -174,11 +174,51 @@ module _ {s₁ s₂ t₁ t₂ : List ℕ} {r₁ r₂ room : ℕ} {g : Generic} (
       let q : PairingTo s₁ s₂ t₁ t₂ r₁ r₂ Array = record { given = array-given; is = i .is } in
       record {
         inner = array-pair h q e array-given;
-        less = array-less h q;
+        less = array-rows h q;
         spelled =
             ap spell (ap₂ witness (in-array (array-given .new) (of-kind h e (array-given .new)) .is) (in-array (array-given .old) (i .is .tells (array-given .old)) .is))
             ∙ array-bytes (witnessOf (array-pair h q e array-given));
       }
+
+-- both are of arrays: their elements
+module _ {s₁ s₂ t₁ t₂ : List ℕ} {r₁ r₂ : ℕ} {g : Generic} (h : GenericRow s₁ t₁ r₁ g) (e : g ≡ Array) where
+  module _ {room : ℕ} (i : WitnessTo s₁ s₂ t₁ t₂ r₁ r₂ room Array) where
+    pub array-fits : 0 < room
+    array-fits = omega (arith, around-fits (array-around h i e))
+
+    pub array-new : length t₁ < 2 ^ 64 → Fits w64 (r₁ + 2)
+    array-new = around-new (array-around h i e)
+
+    pub array-old : length t₂ < 2 ^ 64 → Fits w64 (r₂ + 2)
+    array-old = around-old (array-around h i e)
+
+    pub array-less : {m : ℕ} → 4 * word t₂ r₂ 4 + 2 ≡ m → 4 * word t₂ (r₂ + 2) 4 + 3 < m
+    array-less = around-less (array-around h i e)
+
+  -- the bracket is written
+  module _ (out : List ℕ) (i : WitnessTo s₁ s₂ t₁ t₂ r₁ r₂ (length out) Array) where
+    array-opened : Opened (array-around h i e) out 1 (set out 0 0x5B)
+    array-opened = opened (array-around h i e) (wrote-one out 0x5B (array-fits i)) refl
+
+    pub array-within : 1 ≤ length (set out 0 0x5B)
+    array-within = omega (arith, array-opened .room, array-opened .same)
+
+    pub array-inner : WitnessReady s₁ s₂ t₁ t₂ (r₁ + 2) (r₂ + 2) (length (leftOf 1 (set out 0 0x5B)))
+    array-inner = inner-ready (array-around h i e) array-opened
+
+    -- and the element
+    module _ {j : ℕ} {y : List ℕ} (v : WitnessWritten s₁ s₂ t₁ t₂ (r₁ + 2) (r₂ + 2) j (leftOf 1 (set out 0 0x5B)) y) where
+      pub array-filled : Filled (array-around h i e) out (1 + j) (putBack 1 (set out 0 0x5B) y)
+      array-filled = filled (array-around h i e) array-opened v
+
+      pub array-closes : 1 + j < length (putBack 1 (set out 0 0x5B) y)
+      array-closes = omega (arith, array-filled .room, array-filled .same)
+
+      pub array-same : length (set (putBack 1 (set out 0 0x5B) y) (1 + j) 0x5D) ≡ length out
+      array-same = last-same array-filled 0x5D
+
+      pub array-closed : WitnessWritten s₁ s₂ t₁ t₂ r₁ r₂ (1 + j + 1) out (set (putBack 1 (set out 0 0x5B) y) (1 + j) 0x5D)
+      array-closed = closed (array-around h i e) array-filled
 
 -- ---- of maps
 

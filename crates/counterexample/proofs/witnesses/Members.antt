@@ -30,7 +30,7 @@ use Rattle.samples.specs.Writing.{Writes, nameBytes, further, OthersReady, Othe
 use Rattle.samples.specs.Writing.{NameReady, NameWritten}
 use Rattle.counterexample.specs.Writing.{failingValue, WitnessReady, WitnessWritten, MemberReady}
 use Rattle.counterexample.specs.Writing.{MemberWritten, UnderReady, UnderWritten}
-use Rattle.samples.proofs.Lent.{leftOf, putBack, wrote, Lent, lent, lent-more, lent-last}
+use Rattle.samples.proofs.Facts.{leftOf, putBack, wrote, Lent, lent, lent-more, lent-last, last-same}
 use Rattle.counterexample.proofs.Failing.{witness-json, under-found}
 use Rattle.counterexample.proofs.witnesses.Laws.{witnessOf}
 
@@ -107,12 +107,16 @@ module _ {s₁ s₂ t₁ t₂ : List ℕ} {r₁ r₂ : ℕ} where
         pub others-lent : Valued out n u → OthersReady s₁ t₁ r₁ (characters z) (length (leftOf n u))
         others-lent g = rw (b, q .first, q .last) (record { row = k .pair .new; fits = omega (arith, g .left) })
 
-        pub behind-others : Valued out n u → {j : ℕ} {y : List ℕ} → OthersWritten s₁ t₁ r₁ (characters z) j (leftOf n u) y → Complete out (n + j) (putBack n u y)
+        pub behind-others : Valued out n u → {j : ℕ} {y : List ℕ} → OthersWritten s₁ t₁ r₁ (characters z) j (leftOf n u) y
+            → Complete out (n + j) (putBack n u y)
         behind-others g o = lent-more g (othersOut (k .pair)) (omega arith) ((rw (b, q .first, q .last) at o) .tells (k .pair .new))
 
     module _ {out : List ℕ} {n : ℕ} {u : List ℕ} where
       pub behind-value : Named out n u → {j : ℕ} {y : List ℕ} → UnderWritten s₁ s₂ t₁ t₂ r₁ r₂ j (leftOf n u) y → Valued out (n + j) (putBack n u y)
       behind-value g w = lent-more g (underOut (k .pair)) (omega arith) (w .tells (k .pair))
+
+      pub member-same : Complete out n u → length (set u n 0x7D) ≡ length out
+      member-same g = last-same g 0x7D
 
       pub member-closed : Complete out n u → MemberWritten s₁ s₂ t₁ t₂ r₁ r₂ (n + 1) out (set u n 0x7D)
       member-closed g = record { tells = λ q. lent-last g (omega arith) 0x7D (member-spelled (k .pair) q) }

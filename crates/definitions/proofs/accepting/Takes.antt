@@ -5,7 +5,7 @@ use mathlib.Core.List.{List}
 use native.Mathlib.Omega.{arith}
 use lib.Dec.{leb}
 use borrow.Author.Tests.{leb-true, leb-false}
-use Rattle.model.proofs.Basics.{both}
+use Rattle.model.proofs.Basics.{never, both}
 use Rattle.tokens.specs.Parse.{Parse, refused, parsed}
 use Rattle.syntax.specs.Tree.{Node}
 use Rattle.syntax.specs.Rows.{size}
@@ -13,7 +13,7 @@ use Rattle.syntax.specs.Answer.{rowsIn}
 use Rattle.syntax.proofs.Theorems.{read-code}
 use Rattle.definitions.specs.Definitions.{Located, Defined, faulty, fine, definitionAt}
 use Rattle.definitions.specs.Accepting.{readSchema, Accepted, not-accepted, accepted, definedAs, acceptedAs, accept, HasRoom}
-use Rattle.definitions.proofs.definitions.Faults.{never, fault-code}
+use Rattle.definitions.proofs.definitions.Faults.{fault-code}
 
 -- the ways of what was read
 pub by-parse : {A : Type 0} (P : Parse A → Type 0) (o : Parse A)

@@ -6,7 +6,7 @@ use mathlib.Core.Option.{Option, none, some}
 use mathlib.Core.List.{List}
 use native.Mathlib.Omega.{arith}
 use Rattle.model.specs.Text.{text, same}
-use Rattle.model.proofs.Basics.{both}
+use Rattle.model.proofs.Basics.{never, both}
 use Rattle.syntax.specs.Tree.{Node, Members, no-member, member}
 use Rattle.syntax.specs.Grammar.{nameOf}
 use Rattle.syntax.specs.Rows.{size, sizesMembers}
@@ -18,7 +18,7 @@ use Rattle.rows.specs.Finding.{lookup, Finds}
 use Rattle.rows.specs.Records.{Reads, Rowed, ObjectRow, PartRow}
 use Rattle.rows.specs.declared.records.Record.{Record}
 use Rattle.definitions.specs.declared.definitions.Fault.{Fault}
-use Rattle.definitions.proofs.definitions.Faults.{never, Coded, fields-coded}
+use Rattle.definitions.proofs.definitions.Faults.{Coded, fields-coded}
 use Rattle.rows.proofs.Facts.{row, object-row, same-tree, as-row, as-object, found, not-found}
 use Rattle.definitions.proofs.definitions.OtherKinds.{no-body, no-part}
 use Rattle.definitions.proofs.definitions.Laws.{fault, fault-is, fault-mapped}

@@ -15,13 +15,9 @@ use Rattle.syntax.specs.Tree.{Node, scalar, array, object, Members, no-member, 
 use Rattle.syntax.specs.Grammar.{nameOf}
 use Rattle.syntax.specs.Holding.{Placed, PlacedMembers}
 use Rattle.definitions.specs.Definitions.{Located, named-at, array-at, map-at, object-at, LocatedFields, field, Defined, faulty, fine}
-use Rattle.definitions.specs.Definitions.{mapped, typeAt, scalarAt, isLast, added, hasNamed, sharedAt, Part, wrong, members-with}
-use Rattle.definitions.specs.Definitions.{bothFields, unshared, joinedAt, constructed, definitionAt, singleAt, bodyAt, partAt, partOf}
+use Rattle.definitions.specs.Definitions.{ifFine, typeAt, scalarDefinition, isLast, addedAt, hasNamed, sharedAt, Part, wrong, members-with}
+use Rattle.definitions.specs.Definitions.{bothFields, unshared, joinedAt, constructedAt, definitionAt, singleAt, bodyAt, partAt, partOf}
 use Rattle.definitions.specs.Definitions.{fieldsAt}
-
--- two constructors are never equal: `never (cc)`
-pub never : {A : Type 0} → _≡_ {A = ℕ} 0 1 → A
-never z = absurd (omega arith)
 
 -- ---- the first byte
 
@@ -37,11 +33,11 @@ abbrev Starts : ℕ → Defined Located → Type 0
 Starts p (faulty c q) = Unit
 Starts p (fine d) = firstByte d ≡ p
 
-mapped-starts : {A : Type 0} (p : ℕ) (f : A → Located) → ((a : A) → firstByte (f a) ≡ p) → (d : Defined A) → Starts p (mapped f d)
+mapped-starts : {A : Type 0} (p : ℕ) (f : A → Located) → ((a : A) → firstByte (f a) ≡ p) → (d : Defined A) → Starts p (ifFine f d)
 mapped-starts p f h (faulty c q) = tt
 mapped-starts p f h (fine a) = h a
 
-scalar-starts : (s : List ℕ) (k : Kind) (f e : ℕ) → Starts f (scalarAt s k f e)
+scalar-starts : (s : List ℕ) (k : Kind) (f e : ℕ) → Starts f (scalarDefinition s k f e)
 scalar-starts s Null f e = tt
 scalar-starts s False f e = tt
 scalar-starts s True f e = tt
@@ -68,7 +64,7 @@ body-starts s p (scalar k f e) = tt
 body-starts s p (array f e ns) = tt
 body-starts s p (object f e ms) = joined-starts s p (partAt s (text "required") ms) (partAt s (text "optional") ms)
 
-constructed-starts : (p q : ℕ) (n : List ℕ) (d o : Defined Located) → Starts p o → Starts p (constructed p q n d o)
+constructed-starts : (p q : ℕ) (n : List ℕ) (d o : Defined Located) → Starts p o → Starts p (constructedAt p q n d o)
 constructed-starts p q n d o h =
     both (Starts p) (same n (text "Array")) (λ _. mapped-starts p (array-at p) (λ _. refl) d)
     (λ _. both (Starts p) (same n (text "Map")) (λ _. mapped-starts p (map-at p) (λ _. refl) d)
@@ -116,12 +112,12 @@ module _ (s : List ℕ) where
   weaken X Y f (faulty c p) h = weaken-fault X Y f c p h
   weaken X Y f (fine a) h = tt
 
-  mapped-fault : {A B : Type 0} (X : Type 0) (f : A → B) (d : Defined A) → AnyFault X d → AnyFault X (mapped f d)
+  mapped-fault : {A B : Type 0} (X : Type 0) (f : A → B) (d : Defined A) → AnyFault X d → AnyFault X (ifFine f d)
   mapped-fault X f (faulty c p) h = h
   mapped-fault X f (fine a) h = tt
 
   added-fault : (X : Type 0) (p : ℕ) (n : List ℕ) (d : Defined Located) (fs : Defined LocatedFields)
-      → AnyFault X d → AnyFault X fs → AnyFault X (added p n d fs)
+      → AnyFault X d → AnyFault X fs → AnyFault X (addedAt p n d fs)
   added-fault X p n (faulty c q) fs h k = h
   added-fault X p n (fine d) fs h k = mapped-fault X (field p n d) fs k
 
@@ -163,7 +159,7 @@ module _ (s : List ℕ) where
       unshared-fault X (sharedAt s ms ns) (bothFields p r o) (λ x. shared-within ms ns (k .0 x)) (fields-fault X p r o (h .1) (k .1))
 
   constructed-fault : (X : Type 0) (p q : ℕ) (n : List ℕ) (d o : Defined Located)
-      → (X → q < length s) → AnyFault X d → AnyFault X o → AnyFault X (constructed p q n d o)
+      → (X → q < length s) → AnyFault X d → AnyFault X o → AnyFault X (constructedAt p q n d o)
   constructed-fault X p q n d o l h k =
       both (AnyFault X) (same n (text "Array")) (λ _. mapped-fault X (array-at p) d h)
       (λ _. both (AnyFault X) (same n (text "Map")) (λ _. mapped-fault X (map-at p) d h)
@@ -179,7 +175,7 @@ module _ (s : List ℕ) where
   wrong-kind : (n : Node) → FaultWithin s (Placed s n) 10 (placeOf n)
   wrong-kind n = fault-of (Placed s n) 10 (placeOf n) (omega arith) (place-within n)
 
-  scalar-fault : (k : Kind) (f e : ℕ) → AnyFault (Placed s (scalar k f e)) (scalarAt s k f e)
+  scalar-fault : (k : Kind) (f e : ℕ) → AnyFault (Placed s (scalar k f e)) (scalarDefinition s k f e)
   scalar-fault Null f e = wrong-kind (scalar Null f e)
   scalar-fault False f e = wrong-kind (scalar False f e)
   scalar-fault True f e = wrong-kind (scalar True f e)

@@ -7,7 +7,7 @@ use Rattle.syntax.specs.Tree.{Node, Members, member}
 use Rattle.syntax.specs.Grammar.{nameOf}
 use Rattle.syntax.specs.Rows.{sizesMembers}
 use Rattle.syntax.specs.Holding.{word}
-use Rattle.definitions.specs.Definitions.{Located, LocatedFields, field, Defined, faulty, fine, added, definitionAt, fieldsAt, faultOf}
+use Rattle.definitions.specs.Definitions.{Located, LocatedFields, field, Defined, faulty, fine, addedAt, definitionAt, fieldsAt, faultOf}
 use Rattle.definitions.specs.Definitions.{Defines, DefinesFields}
 use Rattle.rows.specs.Records.{Reads, Rowed, PartRow}
 use Rattle.rows.specs.declared.records.Record.{Record}
@@ -33,14 +33,14 @@ part-none {s} {f = f} e q = record { tells = λ v. fault-is f q ∙ ap (λ (ms :
 
 -- the first member and the others: a fault of the first counts
 fields-of : (s : List ℕ) (f e : ℕ) (n : Node) (ms all : Members) → all ≡ member f e n ms
-    → faultOf (added f (nameOf s f e) (definitionAt s n) (fieldsAt s ms)) ≡ faultOf (fieldsAt s all)
+    → faultOf (addedAt f (nameOf s f e) (definitionAt s n) (fieldsAt s ms)) ≡ faultOf (fieldsAt s all)
 fields-of s f e n ms all q = rw q
 
-field-stops : (p : ℕ) (n : List ℕ) (d : Defined Located) (fs : Defined LocatedFields) → (faultOf d .code ≡ 0 → ⊥) → faultOf d ≡ faultOf (added p n d fs)
+field-stops : (p : ℕ) (n : List ℕ) (d : Defined Located) (fs : Defined LocatedFields) → (faultOf d .code ≡ 0 → ⊥) → faultOf d ≡ faultOf (addedAt p n d fs)
 field-stops p n (faulty c q) fs h = refl
 field-stops p n (fine d) fs h = absurd (h refl)
 
-field-passes : (p : ℕ) (n : List ℕ) (d : Defined Located) (fs : Defined LocatedFields) → Coded d → faultOf d .code ≡ 0 → faultOf fs ≡ faultOf (added p n d fs)
+field-passes : (p : ℕ) (n : List ℕ) (d : Defined Located) (fs : Defined LocatedFields) → Coded d → faultOf d .code ≡ 0 → faultOf fs ≡ faultOf (addedAt p n d fs)
 field-passes p n (faulty c q) fs k h = absurd (omega arith)
 field-passes p n (fine d) fs k h = sym (fault-mapped (field p n d) fs)
 
@@ -70,7 +70,7 @@ module _ {s t : List ℕ} {r at left : ℕ} (a : InFields s t r at left) (l : 0 
   abbrev others : Defined LocatedFields
   others = fieldsAt s (here .others)
 
-  all-fields : faultOf (added (here .first) (nameOf s (here .first) (here .end)) this others) ≡ faultOf (fieldsAt s (a .whole .members))
+  all-fields : faultOf (addedAt (here .first) (nameOf s (here .first) (here .end)) this others) ≡ faultOf (fieldsAt s (a .whole .members))
   all-fields = fields-of s (here .first) (here .end) (field-value .tree) (here .others) (a .rest) (here .is) ∙ a .is
 
   module _ {g : Fault} (d : Defines s t at g) where

@@ -10,6 +10,7 @@ use lib.ListN.{length}
 use denote.Enum.Declared.{tagOf}
 use types.Run.{OneOf}
 use lib.Dec.{lit<}
+use Rattle.model.proofs.Basics.{never}
 use Rattle.model.specs.Text.{text, same}
 use Rattle.model.specs.Definition.{Named, JSON, Schema, Float, Integer, String, Boolean, DateTime, namedBy}
 use Rattle.tokens.specs.Spelling.{IsQuoted}
@@ -17,7 +18,7 @@ use Rattle.syntax.specs.Tree.{Node, Members, no-member, member}
 use Rattle.syntax.specs.Grammar.{nameOf}
 use Rattle.syntax.specs.Rows.{size, sizesMembers, countMembers}
 use Rattle.syntax.specs.Holding.{word, Holds}
-use Rattle.definitions.specs.Definitions.{Located, array-at, map-at, Defined, faulty, fine, mapped, typeAt, constructed, definitionAt}
+use Rattle.definitions.specs.Definitions.{Located, array-at, map-at, Defined, faulty, fine, ifFine, typeAt, constructedAt, definitionAt}
 use Rattle.definitions.specs.Definitions.{singleAt, bodyAt, faultOf, Defines, DefinesBody}
 use Rattle.definitions.specs.Types.{typeName, genericOf}
 use Rattle.rows.specs.Records.{InTable, Reads, Rowed}
@@ -29,7 +30,6 @@ use Rattle.definitions.specs.declared.types.Generic.{Generic}
 use Rattle.definitions.specs.declared.types.Generic.the-variants.{Array, Map, Object, Other}
 use Rattle.definitions.proofs.types.TypeName.{the-type}
 use Rattle.chars.specs.Strings.{characters, part}
-use Rattle.definitions.proofs.definitions.Faults.{never}
 use Rattle.rows.proofs.Facts.{kindOf, row, string-read, string-quoted, object-row, quotes-read, same-tree, as-row, as-object, members-start}
 use Rattle.rows.proofs.Facts.{member-here, members-next, members-end}
 use Rattle.definitions.proofs.definitions.OtherKinds.{no-definition}
@@ -42,7 +42,7 @@ fault c p = record { code = c; place = p }
 pub fault-is : (g : Fault) {c p : ℕ} → (g .code ≡ c) × (g .place ≡ p) → g ≡ fault c p
 fault-is g h = ap₂ fault (h .0) (h .1)
 
-pub fault-mapped : {A B : Type 0} (g : A → B) (d : Defined A) → faultOf (mapped g d) ≡ faultOf d
+pub fault-mapped : {A B : Type 0} (g : A → B) (d : Defined A) → faultOf (ifFine g d) ≡ faultOf d
 fault-mapped g (faulty c p) = refl
 fault-mapped g (fine a) = refl
 
@@ -81,11 +81,11 @@ genericFault Map d o q = d
 genericFault Object d o q = o
 genericFault Other d o q = fault 11 q
 
-fault-constructed : (p q : ℕ) (n : List ℕ) (d o : Defined Located) → faultOf (constructed p q n d o) ≡ genericFault (genericOf n) (faultOf d) (faultOf o) q
+fault-constructed : (p q : ℕ) (n : List ℕ) (d o : Defined Located) → faultOf (constructedAt p q n d o) ≡ genericFault (genericOf n) (faultOf d) (faultOf o) q
 unfolding genericOf
 fault-constructed p q n d o = go (same n (text "Array")) (same n (text "Map")) (same n (text "Object"))
   where
-    go : (a m b : Bool) → faultOf (cond a (mapped (array-at p) d) (cond m (mapped (map-at p) d) (cond b o (faulty 11 q))))
+    go : (a m b : Bool) → faultOf (cond a (ifFine (array-at p) d) (cond m (ifFine (map-at p) d) (cond b o (faulty 11 q))))
         ≡ genericFault (cond a Array (cond m Map (cond b Object Other))) (faultOf d) (faultOf o) q
     go true m b = fault-mapped (array-at p) d
     go false true b = fault-mapped (map-at p) d
@@ -100,7 +100,7 @@ pub record Single (s t : List ℕ) (r : ℕ) (x : Defined Located) : Type 0 wher
   pub in-table : InTable t (r + 1)
   pub quoted : IsQuoted s (word t (r + 1) 1) (word t (r + 1) 2)
   pub less : word t (r + 2) 4 < word t r 4
-  pub is : constructed (word t r 1) (word t (r + 1) 1) (nameOf s (word t (r + 1) 1) (word t (r + 1) 2))
+  pub is : constructedAt (word t r 1) (word t (r + 1) 1) (nameOf s (word t (r + 1) 1) (word t (r + 1) 2))
       (definitionAt s (value .tree)) (bodyAt s (word t r 1) (value .tree)) ≡ x
 
 pub single : {s t : List ℕ} {r : ℕ} (w : Rowed s t r) → word t r 0 ≡ 8 → word t r 3 ≡ 1 → Single s t r (definitionAt s (w .tree))

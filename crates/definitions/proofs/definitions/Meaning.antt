@@ -8,16 +8,15 @@ use Rattle.model.specs.Text.{text, same}
 use Rattle.model.specs.Definition.{Named, namedBy, Def, named, array-of, map-of, Fields, hasField, disjoint, isEmpty, definitionOf, single}
 use Rattle.model.specs.Definition.{objectOf, fieldsOf, fieldsIn, mapped as map-option, added as added-option, joined as joined-option}
 use Rattle.model.specs.Definition.{constructed as constructed-option, fieldsUnder as part-option}
-use Rattle.model.proofs.Basics.{both}
+use Rattle.model.proofs.Basics.{never, both}
 use Rattle.tokens.specs.Tokens.{Kind, Null, False, True, Whole, Fractional, Quoted}
 use Rattle.syntax.specs.Tree.{Node, scalar, array, object, Members, no-member, member}
 use Rattle.syntax.specs.Grammar.{nameOf}
 use Rattle.syntax.specs.Spelling.{scalarOf, valueOf, membersOf}
 use Rattle.definitions.specs.Definitions.{Located, array-at, map-at, object-at, LocatedFields, no-field, field, bare, bareFields}
-use Rattle.definitions.specs.Definitions.{Defined, faulty, fine, mapped, typeAt, scalarAt, isLast, added, hasNamed, sharedAt, Part}
-use Rattle.definitions.specs.Definitions.{wrong, members-with, bothFields, unshared, joinedAt, constructed, definitionAt, singleAt}
+use Rattle.definitions.specs.Definitions.{Defined, faulty, fine, ifFine, typeAt, scalarDefinition, isLast, addedAt, hasNamed, sharedAt, Part}
+use Rattle.definitions.specs.Definitions.{wrong, members-with, bothFields, unshared, joinedAt, constructedAt, definitionAt, singleAt}
 use Rattle.definitions.specs.Definitions.{bodyAt, partAt, partOf, fieldsAt}
-use Rattle.definitions.proofs.definitions.Faults.{never}
 
 -- ---- without places, and without what a fault says
 
@@ -34,7 +33,7 @@ forgetPart (wrong q) = none
 forgetPart (members-with ms r) = forgetFields r
 
 mapped-forgets : (f : Located → Located) (g : Def → Def) → ((d : Located) → g (bare d) ≡ bare (f d))
-    → (d : Defined Located) → map-option g (forget d) ≡ forget (mapped f d)
+    → (d : Defined Located) → map-option g (forget d) ≡ forget (ifFine f d)
 mapped-forgets f g h (faulty c p) = refl
 mapped-forgets f g h (fine d) = ap some (h d)
 
@@ -43,7 +42,7 @@ type-forgets p none = refl
 type-forgets p (some t) = refl
 
 added-forgets : (p : ℕ) (n : List ℕ) (d : Defined Located) (fs : Defined LocatedFields)
-    → added-option n (forget d) (forgetFields fs) ≡ forgetFields (added p n d fs)
+    → added-option n (forget d) (forgetFields fs) ≡ forgetFields (addedAt p n d fs)
 added-forgets p n (faulty c q) fs = refl
 added-forgets p n (fine d) (faulty c q) = refl
 added-forgets p n (fine d) (fine fs) = refl
@@ -55,7 +54,7 @@ choice-forgets f true x y d e h k = h
 choice-forgets f false x y d e h k = k
 
 constructed-forgets : (p q : ℕ) (n : List ℕ) (x y : Option Def) (d o : Defined Located)
-    → x ≡ forget d → y ≡ forget o → constructed-option n x y ≡ forget (constructed p q n d o)
+    → x ≡ forget d → y ≡ forget o → constructed-option n x y ≡ forget (constructedAt p q n d o)
 constructed-forgets p q n x y d o h k =
     choice-forgets forget (same n (text "Array")) _ _ _ _ (rw h (mapped-forgets (array-at p) array-of (λ e. refl) d))
     (choice-forgets forget (same n (text "Map")) _ _ _ _ (rw h (mapped-forgets (map-at p) map-of (λ e. refl) d))
@@ -72,7 +71,7 @@ pub record Added (p : ℕ) (n : List ℕ) (d : Defined Located) (fs : Defined Lo
   pub adds : all ≡ field p n definition others
 
 pub added-fine : (p : ℕ) (n : List ℕ) (d : Defined Located) (fs : Defined LocatedFields) (all : LocatedFields)
-    → added p n d fs ≡ fine all → Added p n d fs all
+    → addedAt p n d fs ≡ fine all → Added p n d fs all
 added-fine p n (faulty c q) fs all e = never (cc)
 added-fine p n (fine d) (faulty c q) all e = never (cc)
 added-fine p n (fine d) (fine fs) all e = record { definition = d; others = fs; defines = refl; define = refl; adds = cc }
@@ -145,7 +144,7 @@ module _ (s : List ℕ) where
 
   -- ---- values
 
-  scalar-forgets : (k : Kind) (f e : ℕ) → definitionOf (scalarOf s k f e) ≡ forget (scalarAt s k f e)
+  scalar-forgets : (k : Kind) (f e : ℕ) → definitionOf (scalarOf s k f e) ≡ forget (scalarDefinition s k f e)
   scalar-forgets Null f e = refl
   scalar-forgets False f e = refl
   scalar-forgets True f e = refl

@@ -6,6 +6,7 @@ use mathlib.Core.Option.{Option, none, some}
 use mathlib.Core.List.{List}
 use native.Mathlib.Omega.{arith}
 use native.Mathlib.Decide.{ℕ-discrete}
+use Rattle.model.proofs.Basics.{never}
 use Rattle.model.specs.Text.{text, same}
 use Rattle.model.specs.Definition.{Named, namedBy, Def, named, array-of, map-of, object-of}
 use Rattle.syntax.specs.Tree.{Node, scalar, array, object, Members, no-member, member, placeOf}
@@ -13,8 +14,8 @@ use Rattle.syntax.specs.Grammar.{nameOf}
 use Rattle.syntax.specs.Rows.{countMembers}
 use Rattle.syntax.specs.Holding.{word}
 use Rattle.definitions.specs.Definitions.{Located, named-at, array-at, map-at, object-at, LocatedFields, bare, bareFields, Defined}
-use Rattle.definitions.specs.Definitions.{faulty, fine, mapped, typeAt, unshared, Part, wrong, members-with, bothFields, joinedAt}
-use Rattle.definitions.specs.Definitions.{sharedAt, constructed, definitionAt, singleAt, bodyAt, partAt, partOf, fieldsAt}
+use Rattle.definitions.specs.Definitions.{faulty, fine, ifFine, typeAt, unshared, Part, wrong, members-with, bothFields, joinedAt}
+use Rattle.definitions.specs.Definitions.{sharedAt, constructedAt, definitionAt, singleAt, bodyAt, partAt, partOf, fieldsAt}
 use Rattle.definitions.specs.Types.{typeName, genericOf}
 use Rattle.rows.specs.Records.{Reads, Rowed, ObjectRow, PartRow}
 use Rattle.rows.specs.Finding.{Finds}
@@ -25,7 +26,6 @@ use Rattle.definitions.specs.declared.types.TypeName.the-variants.{Unkno
 use Rattle.definitions.specs.declared.types.Generic.{Generic}
 use Rattle.definitions.specs.declared.types.Generic.the-variants.{Array, Map, Object, Other}
 use Rattle.chars.specs.Strings.{characters, part}
-use Rattle.definitions.proofs.definitions.Faults.{never}
 use Rattle.definitions.proofs.definitions.Laws.{Single, single}
 use Rattle.definitions.proofs.definitions.Body.{Sought, sought, sought-part, partRows}
 use Rattle.rows.proofs.Facts.{kindOf, membersIn, row, string-row, string-read, object-row, as-object}
@@ -74,17 +74,17 @@ Shaped s p n Map d = (e : Located) × (definitionAt s n ≡ fine e) × (d ≡ ma
 Shaped s p n Object d = bodyAt s p n ≡ fine d
 Shaped s p n Other d = ⊥
 
-mapped-fine : (f : Located → Located) (x : Defined Located) (d : Located) → mapped f x ≡ fine d → (e : Located) × (x ≡ fine e) × (d ≡ f e)
+mapped-fine : (f : Located → Located) (x : Defined Located) (d : Located) → ifFine f x ≡ fine d → (e : Located) × (x ≡ fine e) × (d ≡ f e)
 mapped-fine f (faulty c p) d q = never (cc)
 mapped-fine f (fine e) d q = (e, refl, cc)
 
 pub shaped : (s : List ℕ) (p i : ℕ) (k : List ℕ) (n : Node) (d : Located)
-    → constructed p i k (definitionAt s n) (bodyAt s p n) ≡ fine d → Shaped s p n (genericOf k) d
+    → constructedAt p i k (definitionAt s n) (bodyAt s p n) ≡ fine d → Shaped s p n (genericOf k) d
 unfolding genericOf
 shaped s p i k n d = go (same k (text "Array")) (same k (text "Map")) (same k (text "Object"))
   where
     go : (a m b : Bool)
-        → cond a (mapped (array-at p) (definitionAt s n)) (cond m (mapped (map-at p) (definitionAt s n)) (cond b (bodyAt s p n) (faulty 11 i))) ≡ fine d
+        → cond a (ifFine (array-at p) (definitionAt s n)) (cond m (ifFine (map-at p) (definitionAt s n)) (cond b (bodyAt s p n) (faulty 11 i))) ≡ fine d
         → Shaped s p n (cond a Array (cond m Map (cond b Object Other))) d
     go true m b q = mapped-fine (array-at p) (definitionAt s n) d q
     go false true b q = mapped-fine (map-at p) (definitionAt s n) d q

@@ -21,14 +21,14 @@ use Rattle.syntax.specs.Rows.{countMembers}
 use Rattle.syntax.specs.Grammar.{nameOf}
 use Rattle.syntax.specs.Holding.{word}
 use Rattle.rows.specs.Records.{Reads, ObjectRow}
-use Rattle.rows.specs.Matching.{mostNames, bucketCount, memberName, nameIn, bucketOf, bucketIn, Buckets, inBucket, lastIn, Indexed, Indexes}
+use Rattle.rows.specs.Matching.{mostNames, bucketCount, memberName, listedName, nameBucket, bucketIn, Buckets, bucketHas, lastIn, Indexed, Indexes}
 use Rattle.rows.specs.declared.records.Record.{Record}
 use Rattle.rows.proofs.records.Trees.{same-members}
 use Rattle.rows.proofs.records.Members.{MembersLeft, MemberHere, members-start, member-here, members-next, member-read, quoted-read}
 
 -- ---- buckets
 
-pub bucket-small : (n : List ℕ) → bucketOf n < bucketCount
+pub bucket-small : (n : List ℕ) → nameBucket n < bucketCount
 bucket-small n = omega (arith, hash-small n)
 
 -- the bucket of the name whose opening quote is at f; what is broken there is no name
@@ -46,9 +46,9 @@ module _ {s : List ℕ} {f : ℕ} where
 
 -- other names behind the first n
 last-kept : (f g : ℕ → ℕ) (b n : ℕ) → ((j : ℕ) → j < n → g j ≡ f j) → lastIn g b n ≡ lastIn f b n
-last-kept f g b n h = last-same (inBucket f b) (inBucket g b) (suc n) alike
+last-kept f g b n h = last-same (bucketHas f b) (bucketHas g b) (suc n) alike
   where
-    alike : (j : ℕ) → j < suc n → inBucket g b j ≡ inBucket f b j
+    alike : (j : ℕ) → j < suc n → bucketHas g b j ≡ bucketHas f b j
     alike zero l = refl
     alike (suc j) l = rw (h j (omega arith))
 
@@ -57,7 +57,7 @@ last-kept f g b n h = last-same (inBucket f b) (inBucket g b) (suc n) alike
 pub index-none : (s ls fs es : List ℕ) {hs : List ℕ} → hs ≡ replicate bucketCount 0 → Indexed s hs ls fs es 0
 index-none s ls fs es e = record {
   few = omega arith;
-  heads = λ b l. rw e (getD-replicate bucketCount b 0 0 l ∙ sym (last-nothing (inBucket (bucketIn s fs es) b) 1 (λ j m. let z : j ≡ 0 = omega arith in rw z)));
+  heads = λ b l. rw e (getD-replicate bucketCount b 0 0 l ∙ sym (last-nothing (bucketHas (bucketIn s fs es) b) 1 (λ j m. let z : j ≡ 0 = omega arith in rw z)));
   links = λ j l. absurd (omega arith);
   quoted = λ j l. absurd (omega arith);
 }
@@ -85,12 +85,12 @@ module _ {s hs ls fs es : List ℕ} {n : ℕ} (x : Indexed s hs ls fs es n) wher
       }
 
   pub index-head : {b : ℕ} → b < bucketCount → getD hs b 0 ≤ mostNames
-  index-head {b} l = omega (arith, x .few, x .heads b l, last-most (inBucket (bucketIn s fs es) b) (suc n))
+  index-head {b} l = omega (arith, x .few, x .heads b l, last-most (bucketHas (bucketIn s fs es) b) (suc n))
 
   -- the name at n comes into the index: it leads to its bucket's last name, and is it now
   module _ {b : ℕ} (e : b ≡ bucketIn s fs es n) (small : b < bucketCount) (l : n < mostNames) (long : Long hs ls fs es) where
     abbrev in-its : ℕ → ℕ → Bool
-    in-its c j = inBucket (bucketIn s fs es) c j
+    in-its c j = bucketHas (bucketIn s fs es) c j
 
     more-heads : (c : ℕ) → c < bucketCount → getD (set hs b (n + 1)) c 0 ≡ lastIn (bucketIn s fs es) c (n + 1)
     more-heads c m = go (ℕ-discrete c b)
@@ -114,7 +114,7 @@ module _ {s hs ls fs es : List ℕ} {n : ℕ} (x : Indexed s hs ls fs es n) wher
     }
 
 -- a name is put behind the others
-pub index-push : {s hs ls fs es : List ℕ} {n b f e : ℕ} → Indexed s hs ls fs es n → b ≡ bucketOf (nameOf s f e) → b < bucketCount → n < mostNames
+pub index-push : {s hs ls fs es : List ℕ} {n b f e : ℕ} → Indexed s hs ls fs es n → b ≡ nameBucket (nameOf s f e) → b < bucketCount → n < mostNames
     → Long hs ls fs es → IsQuoted s f e → Indexed s (set hs b (n + 1)) (set ls n (getD hs b 0)) (set fs n f) (set es n e) (n + 1)
 index-push {s} {hs} {ls} {fs} {es} {n} {b} {f} {e} x p small l w q =
     let y : Indexed s hs ls (set fs n f) (set es n e) n =
@@ -138,7 +138,7 @@ pub record Indexing (s t : List ℕ) (r : ℕ) (hs ls fs es : List ℕ) (count i
   pub rest : Members
   pub ahead : MembersLeft s t here (count - i) rest
   pub counts : (o : ObjectRow s t r) → count ≡ countMembers (o .members)
-  pub listed : (o : ObjectRow s t r) (j : ℕ) → j < i → nameIn s fs es j ≡ memberName s (o .members) j
+  pub listed : (o : ObjectRow s t r) (j : ℕ) → j < i → listedName s fs es j ≡ memberName s (o .members) j
   pub behind : (o : ObjectRow s t r) (j : ℕ) → memberName s rest j ≡ memberName s (o .members) (i + j)
 
 module _ {s t : List ℕ} {r : ℕ} where
@@ -172,17 +172,17 @@ module _ {s t : List ℕ} {r : ℕ} where
       indexing-name = member-here (a .ahead) (omega arith)
 
       module _ {x y : Record} (p : Reads t here x) (q : Reads t (here + 1) y) {b : ℕ} (k : Buckets s (x .first) b) where
-        next-listed : (o : ObjectRow s t r) (j : ℕ) → j < i + 1 → nameIn s (set fs i (x .first)) (set es i (x .end)) j ≡ memberName s (o .members) j
+        next-listed : (o : ObjectRow s t r) (j : ℕ) → j < i + 1 → listedName s (set fs i (x .first)) (set es i (x .end)) j ≡ memberName s (o .members) j
         next-listed o j m = ⊎-elim here-listed (λ u. kept u) (eq-or-lt-of-le (omega arith))
           where
-            here-listed : j ≡ i → nameIn s (set fs i (x .first)) (set es i (x .end)) j ≡ memberName s (o .members) j
+            here-listed : j ≡ i → listedName s (set fs i (x .first)) (set es i (x .end)) j ≡ memberName s (o .members) j
             here-listed z =
                 let c : i + 0 ≡ i = omega arith in
                 let f = getD-set-same fs i (x .first) 0 (omega (arith, a .long .firsts, a .few)) in
                 let e = getD-set-same es i (x .end) 0 (omega (arith, a .long .ends, a .few)) in
                 rw (z, f, e) (sym (ap (λ (ms : Members). memberName s ms 0) (member-read indexing-name p)) ∙ rw c at (a .behind o 0))
 
-            kept : j < i → nameIn s (set fs i (x .first)) (set es i (x .end)) j ≡ memberName s (o .members) j
+            kept : j < i → listedName s (set fs i (x .first)) (set es i (x .end)) j ≡ memberName s (o .members) j
             kept u =
                 rw (getD-set-other fs i j (x .first) 0 (λ z. omega arith), getD-set-other es i j (x .end) 0 (λ z. omega arith)) (a .listed o j u)
 

@@ -21,7 +21,7 @@ use Rattle.syntax.specs.Grammar.{nameOf}
 use Rattle.syntax.specs.Holding.{word}
 use Rattle.rows.specs.Records.{Reads, ObjectRow}
 use Rattle.rows.specs.Finding.{Finds}
-use Rattle.rows.specs.Matching.{mostNames, memberName, nameIn, bucketOf, bucketIn, inBucket, lastIn, Indexed, HasIndex, Indexes, filled}
+use Rattle.rows.specs.Matching.{mostNames, memberName, listedName, nameBucket, bucketIn, bucketHas, lastIn, Indexed, HasIndex, Indexes, filled}
 use Rattle.rows.specs.Matching.{Fills, FillsAll, Matches}
 use Rattle.rows.specs.declared.records.Record.{Record}
 use Rattle.rows.proofs.records.Members.{MembersLeft, MemberHere, members-start, member-here, members-next}
@@ -38,46 +38,46 @@ filled-kept false r v h = refl
 -- the names from k on, of n, are settled, those before k as they were; the one before k, if any, lies in the bucket of m
 pub record Filling (s fs es : List ℕ) (n : ℕ) (m : List ℕ) (r : ℕ) (vs vs₂ : List ℕ) (k : ℕ) : Type 0 where
   pub below : k ≤ n
-  pub chained : 0 < k → bucketIn s fs es (k - 1) ≡ bucketOf m
-  pub settled : (j : ℕ) → k ≤ j → j < n → getD vs₂ j 0 ≡ filled (same (nameIn s fs es j) m) r (getD vs j 0)
+  pub chained : 0 < k → bucketIn s fs es (k - 1) ≡ nameBucket m
+  pub settled : (j : ℕ) → k ≤ j → j < n → getD vs₂ j 0 ≡ filled (same (listedName s fs es j) m) r (getD vs j 0)
   pub ahead : (j : ℕ) → j < k → getD vs₂ j 0 ≡ getD vs j 0
 
 -- the name before k lies in the bucket
-passed-in : (f : ℕ → ℕ) (b k : ℕ) → 0 < k → inBucket f b k ≡ true → f (k - 1) ≡ b
+passed-in : (f : ℕ → ℕ) (b k : ℕ) → 0 < k → bucketHas f b k ≡ true → f (k - 1) ≡ b
 passed-in f b zero l e = absurd (omega arith)
 passed-in f b (suc j) l e = let z : suc j - 1 ≡ j = omega arith in rw z (eqb-true (f j) b e)
 
 -- a name in another bucket is another name
-other-bucket : (n m : List ℕ) → (bucketOf n ≡ bucketOf m → ⊥) → same n m ≡ false
-other-bucket n m f = by-test (same n m) (λ t. absurd (f (ap bucketOf (same-true n m t)))) (λ t. t)
+other-bucket : (n m : List ℕ) → (nameBucket n ≡ nameBucket m → ⊥) → same n m ≡ false
+other-bucket n m f = by-test (same n m) (λ t. absurd (f (ap nameBucket (same-true n m t)))) (λ t. t)
 
 module _ {s fs es : List ℕ} {n : ℕ} (m : List ℕ) {r : ℕ} {vs vs₂ : List ℕ} where
   -- the last name of the bucket below i; those from i on are settled
-  from-last : (i : ℕ) → i ≤ n → ((j : ℕ) → i ≤ j → j < n → getD vs₂ j 0 ≡ filled (same (nameIn s fs es j) m) r (getD vs j 0))
-      → ((j : ℕ) → j < i → getD vs₂ j 0 ≡ getD vs j 0) → Filling s fs es n m r vs vs₂ (lastIn (bucketIn s fs es) (bucketOf m) i)
+  from-last : (i : ℕ) → i ≤ n → ((j : ℕ) → i ≤ j → j < n → getD vs₂ j 0 ≡ filled (same (listedName s fs es j) m) r (getD vs j 0))
+      → ((j : ℕ) → j < i → getD vs₂ j 0 ≡ getD vs j 0) → Filling s fs es n m r vs vs₂ (lastIn (bucketIn s fs es) (nameBucket m) i)
   from-last i u f g =
-      let p = inBucket (bucketIn s fs es) (bucketOf m) in
+      let p = bucketHas (bucketIn s fs es) (nameBucket m) in
       let w = last-most p (suc i) in
       record {
         below = omega arith;
-        chained = λ z. passed-in (bucketIn s fs es) (bucketOf m) _ z (last-found p (suc i) z);
+        chained = λ z. passed-in (bucketIn s fs es) (nameBucket m) _ z (last-found p (suc i) z);
         settled = λ j a l. go j a l (decLt j i);
         ahead = λ j l. g j (omega arith);
       }
     where
-      go : (j : ℕ) → lastIn (bucketIn s fs es) (bucketOf m) i ≤ j → j < n → Dec (j < i) → getD vs₂ j 0 ≡ filled (same (nameIn s fs es j) m) r (getD vs j 0)
+      go : (j : ℕ) → lastIn (bucketIn s fs es) (nameBucket m) i ≤ j → j < n → Dec (j < i) → getD vs₂ j 0 ≡ filled (same (listedName s fs es j) m) r (getD vs j 0)
       go j a l (yes v) =
-          let p = inBucket (bucketIn s fs es) (bucketOf m) in
-          rw (other-bucket (nameIn s fs es j) m (λ q. last-skips p (suc i) (suc j) (omega arith) (omega arith) (eq-eqb _ _ q))) (g j v)
+          let p = bucketHas (bucketIn s fs es) (nameBucket m) in
+          rw (other-bucket (listedName s fs es j) m (λ q. last-skips p (suc i) (suc j) (omega arith) (omega arith) (eq-eqb _ _ q))) (g j v)
       go j a l (no v) = f j (omega arith) l
 
 module _ {s hs ls fs es : List ℕ} {n : ℕ} (x : Indexed s hs ls fs es n) {m : List ℕ} {r : ℕ} {vs : List ℕ} where
-  fill-begin : {b : ℕ} → b ≡ bucketOf m → Filling s fs es n m r vs vs (getD hs b 0)
-  fill-begin e = rw (e, x .heads (bucketOf m) (bucket-small m)) (from-last m n (omega arith) (λ j a l. absurd (omega arith)) (λ j l. refl))
+  fill-begin : {b : ℕ} → b ≡ nameBucket m → Filling s fs es n m r vs vs (getD hs b 0)
+  fill-begin e = rw (e, x .heads (nameBucket m) (bucket-small m)) (from-last m n (omega arith) (λ j a l. absurd (omega arith)) (λ j l. refl))
 
   -- the name before k is settled, and leads on
   module _ {vs₂ : List ℕ} {k : ℕ} (d : Filling s fs es n m r vs vs₂ k) (l : 0 < k) where
-    fill-next : k - 1 < length vs₂ → {v : ℕ} → v ≡ filled (same (nameIn s fs es (k - 1)) m) r (getD vs₂ (k - 1) 0)
+    fill-next : k - 1 < length vs₂ → {v : ℕ} → v ≡ filled (same (listedName s fs es (k - 1)) m) r (getD vs₂ (k - 1) 0)
         → Filling s fs es n m r vs (set vs₂ (k - 1) v) (getD ls (k - 1) 0)
     fill-next w {v} e =
         let b = d .below in
@@ -103,7 +103,7 @@ pub record NameHere (s ls fs es : List ℕ) (k : ℕ) : Type 0 where
   pub less : getD ls (k - 1) 0 < k
 
 module _ {s hs ls fs es m : List ℕ} {r : ℕ} {vs : List ℕ} where
-  pub along-begin : {b : ℕ} → length vs ≡ mostNames → b ≡ bucketOf m → Along s hs ls fs es m r vs vs (getD hs b 0)
+  pub along-begin : {b : ℕ} → length vs ≡ mostNames → b ≡ nameBucket m → Along s hs ls fs es m r vs vs (getD hs b 0)
   along-begin l e = record { long = l; each = λ x. fill-begin x e }
 
   module _ {vs₂ : List ℕ} {k : ℕ} (a : Along s hs ls fs es m r vs vs₂ k) where
@@ -120,10 +120,10 @@ module _ {s hs ls fs es m : List ℕ} {r : ℕ} {vs : List ℕ} where
           record {
             room = omega (arith, x .few);
             quotes = (b .0, b .1);
-            less = omega (arith, x .links (k - 1) place, last-most (inBucket (bucketIn s fs es) (bucketIn s fs es (k - 1))) (suc (k - 1)));
+            less = omega (arith, x .links (k - 1) place, last-most (bucketHas (bucketIn s fs es) (bucketIn s fs es (k - 1))) (suc (k - 1)));
           }
 
-      pub along-next : k - 1 < mostNames → {t : Bool} {v : ℕ} → t ≡ same (nameIn s fs es (k - 1)) m → v ≡ filled t r (getD vs₂ (k - 1) 0)
+      pub along-next : k - 1 < mostNames → {t : Bool} {v : ℕ} → t ≡ same (listedName s fs es (k - 1)) m → v ≡ filled t r (getD vs₂ (k - 1) 0)
           → Along s hs ls fs es m r vs (set vs₂ (k - 1) v) (getD ls (k - 1) 0)
       along-next w p e = record { long = simp length-set (a .long); each = λ x. fill-next x (a .each x) l (omega (arith, a .long)) (rw p at e) }
 
@@ -163,7 +163,7 @@ pub record Searching (s t : List ℕ) (r : ℕ) (s₂ hs ls fs es vs vs₂ : Lis
   pub long : length vs₂ ≡ length vs
   pub rest : Members
   pub ahead : MembersLeft s t here left rest
-  pub each : {n : ℕ} → Indexed s₂ hs ls fs es n → (j : ℕ) → j < n → Adding s t r (nameIn s₂ fs es j) here left (getD vs j 0) (getD vs₂ j 0)
+  pub each : {n : ℕ} → Indexed s₂ hs ls fs es n → (j : ℕ) → j < n → Adding s t r (listedName s₂ fs es j) here left (getD vs j 0) (getD vs₂ j 0)
 
 module _ {s t : List ℕ} {r : ℕ} {s₂ hs ls fs es vs : List ℕ} where
   pub search-start : (o : ObjectRow s t r) {left : ℕ} → left ≡ word t r 3 → Searching s t r s₂ hs ls fs es vs vs (r + 1) left
@@ -195,7 +195,7 @@ module _ {s t : List ℕ} {r : ℕ} {s₂ hs ls fs es vs : List ℕ} where
           fresh = λ u. sought-next l p (q .next) (getD vs₂ j 0) (getD vs₃ j 0) (a .each x j m .fresh u) (f .tells x j m);
           kept = λ u.
               (let e = a .each x j m .kept u in
-              f .tells x j m ∙ filled-kept (same (nameIn s₂ fs es j) (nameOf s (z .first) (z .end))) (here + 1) (getD vs₂ j 0) (λ v. omega arith) ∙ e);
+              f .tells x j m ∙ filled-kept (same (listedName s₂ fs es j) (nameOf s (z .first) (z .end))) (here + 1) (getD vs₂ j 0) (λ v. omega arith) ∙ e);
         };
       }
 

@@ -26,7 +26,7 @@ use Rattle.grammar.specs.Utf8.{utf8}
 use Rattle.writer.specs.Spell.{spellChar, spellChars, spell}
 use Rattle.writer.specs.Compact.{over}
 use Rattle.model.proofs.Basics.{never}
-use Rattle.writer.proofs.Over.{over-first, Wrote, wrote-byte}
+use Rattle.writer.proofs.Facts.{over-first, Wrote, wrote-byte}
 use Rattle.definitions.specs.Definitions.{Located, named-at, array-at, map-at, object-at, LocatedFields, fine, definitionAt, fieldsAt, bare, bareFields}
 use Rattle.rows.specs.Records.{Reads, PartRow}
 use Rattle.rows.specs.Finding.{Finds}
@@ -105,11 +105,12 @@ module _ {s t : List ℕ} {r : ℕ} {p : List ℕ} where
         count-next w {b} e {m} q =
             let rest = counted p (names (bareFields (this .others))) in
             let z : b ≡ begins p (nameOf s (word t here 1) (word t here 2)) = rw (w, g .first, g .last) at e in
+            let whole = ap (λ (fs : Fields). n + counted p (names fs)) (this .is) in
             record {
               fields = this .others;
               ahead = this .behind h;
               few = omega (arith, bound b q, h .next, a .few);
-              stays = λ f. sum b q rest ∙ ap (λ (b : Bool). n + cond b (suc rest) rest) z ∙ sym (ap (λ (fs : Fields). n + counted p (names fs)) (this .is)) ∙ a .stays f;
+              stays = λ f. sum b q rest ∙ ap (λ (b : Bool). n + cond b (suc rest) rest) z ∙ sym whole ∙ a .stays f;
             }
           where
             bound : (b : Bool) → m ≡ cond b (n + 1) n → m ≤ n + 1
@@ -213,7 +214,8 @@ module _ {s t : List ℕ} {r : ℕ} {before : List ℕ} {n : ℕ} {out : List �
 
     pub letters-end : k ≤ 0 → {buffer : List ℕ} → before ≡ set buffer 0 0x61 → LettersWritten s t r n buffer out
     letters-end l {buffer} e =
-        let z : fresh (bare (g .row .definition)) ≡ g .done = g .splits ∙ ap (_++_ (g .done)) (letters-stop (g .left) (g .done) own (omega (arith, told))) ∙ append-nil (g .done) in
+        let e₂ = letters-stop (g .left) (g .done) own (omega (arith, told)) in
+        let z : fresh (bare (g .row .definition)) ≡ g .done = g .splits ∙ ap (_++_ (g .done)) e₂ ∙ append-nil (g .done) in
         record {
           tells = λ d. subst (λ (x : Located). Writes (fresh (bare x)) n buffer out) (same-definition (g .row) d) (
             g .wrote .count ∙ ap length (sym z),
@@ -226,11 +228,14 @@ module _ {s t : List ℕ} {r : ℕ} {before : List ℕ} {n : ℕ} {out : List �
       some = omega (arith, told)
 
       -- the next letter, and those behind it
-      follows : (j : ℕ) × (counted (g .done ++ next ∷ []) own ≤ j) × (fresh (bare (g .row .definition)) ≡ (g .done ++ next ∷ []) ++ lettersFrom j (g .done ++ next ∷ []) own)
+      abbrev more : List ℕ
+      more = g .done ++ next ∷ []
+
+      follows : (j : ℕ) × (counted more own ≤ j) × (fresh (bare (g .row .definition)) ≡ more ++ lettersFrom j more own)
       follows = go (g .left) (g .enough) (g .splits)
         where
           go : (i : ℕ) → counted (g .done) own ≤ i → fresh (bare (g .row .definition)) ≡ g .done ++ lettersFrom i (g .done) own
-              → (j : ℕ) × (counted (g .done ++ next ∷ []) own ≤ j) × (fresh (bare (g .row .definition)) ≡ (g .done ++ next ∷ []) ++ lettersFrom j (g .done ++ next ∷ []) own)
+              → (j : ℕ) × (counted more own ≤ j) × (fresh (bare (g .row .definition)) ≡ more ++ lettersFrom j more own)
           go zero f q = absurd (omega (arith, some))
           go (suc i) f q = (
             i,
@@ -286,7 +291,8 @@ module _ {s t : List ℕ} {r : ℕ} {before : List ℕ} {n : ℕ} {out : List �
       })
 
       -- 'b' was tried, and then 'a'
-      module _ {x y : ℕ} (hb : CountsNames s t r (take (n + 1) (set out n 0x62)) y) (ha : CountsNames s t r (take (n + 1) (set (set out n 0x62) n 0x61)) x) where
+      module _ {x y : ℕ} (hb : CountsNames s t r (take (n + 1) (set out n 0x62)) y)
+          (ha : CountsNames s t r (take (n + 1) (set (set out n 0x62) n 0x61)) x) where
         with-a : x ≡ counted (g .done ++ 0x61 ∷ []) own
         with-a = with 0x61 (rw (set-set out n 0x62 0x61) at ha)
 

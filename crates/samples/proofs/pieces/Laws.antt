@@ -16,8 +16,7 @@ use Rattle.tokens.proofs.Facts.{quoted-characters, part-one, part-join}
 use Rattle.syntax.specs.Grammar.{nameOf}
 use Rattle.writer.specs.Spell.{spellString, spell}
 use Rattle.writer.specs.Tokens.{stringEnd, stringBytes}
-use Rattle.writer.proofs.Tokens.{string-end}
-use Rattle.writer.proofs.Over.{Wrote, wrote-none, wrote-length}
+use Rattle.writer.proofs.Facts.{string-end, Wrote, wrote-none, wrote-length}
 use Rattle.comparison.specs.Carrying.{typeOf}
 use Rattle.definitions.specs.declared.types.TypeName.{TypeName}
 use Rattle.definitions.specs.declared.types.TypeName.the-variants.{Json, Schema, Float, Integer, Text, Boolean, DateTime, Unknown}

@@ -19,7 +19,7 @@ use Rattle.syntax.specs.Holding.{word}
 use Rattle.writer.specs.Spell.{spell, spellMembers}
 use Rattle.writer.specs.Compact.{over}
 use Rattle.model.proofs.Basics.{never}
-use Rattle.writer.proofs.Over.{Wrote, wrote-none, over-byte}
+use Rattle.writer.proofs.Facts.{Wrote, wrote-none, over-byte}
 use Rattle.definitions.specs.Definitions.{Located, named-at, array-at, map-at, object-at, LocatedFields, bare, bareFields}
 use Rattle.comparison.specs.Carrying.{typeOf}
 use Rattle.rows.specs.Records.{Reads, ObjectRow}
@@ -127,7 +127,9 @@ module _ {s t : List ℕ} {r : ℕ} {g : Generic} (h : GenericRow s t r g) where
 
       module _ {key : List ℕ} where
         pub others-ready : {room : ℕ} → OthersReady s t r key room → FieldsReady s t v false key room
-        others-ready p = record { row = required-row (p .row); fits = omega (arith, p .fits, ap (λ (ms : Members). length (further ms)) (object-others key (p .row))) }
+        others-ready p =
+            let e = ap (λ (ms : Members). length (further ms)) (object-others key (p .row)) in
+            record { row = required-row (p .row); fits = omega (arith, p .fits) }
 
         pub others-written : {n : ℕ} {out out₂ : List ℕ} → FieldsWritten s t v false key n out out₂ → OthersWritten s t r key n out out₂
         others-written k = record { tells = λ d. rw (object-others key d) (k .tells (required-row d)) }
@@ -174,7 +176,8 @@ pub fields-ready : {s t : List ℕ} {r : ℕ} {key : List ℕ} {room : ℕ} → 
 fields-ready p = record { row = p .row; fits = omega (arith, p .fits, further-room (kept (λ m. true) (bareFields (p .row .fields)))) }
 
 -- the members are written
-module _ {s t : List ℕ} {r : ℕ} {key : List ℕ} {n : ℕ} {out mid : List ℕ} (k : FieldsWritten s t r true key n out mid) (p : RequiredReady s t r (length out)) where
+module _ {s t : List ℕ} {r : ℕ} {key : List ℕ} {n : ℕ} {out mid : List ℕ}
+    (k : FieldsWritten s t r true key n out mid) (p : RequiredReady s t r (length out)) where
   abbrev members : Members
   members = kept (λ m. true) (bareFields (p .row .fields))
 
@@ -206,14 +209,16 @@ module _ {s t : List ℕ} {r : ℕ} {key : List ℕ} {n : ℕ} {out mid : List �
 -- ---- `write_field`
 
 -- the name and its colon, and then the value
-field-bytes : {s t : List ℕ} {r room : ℕ} (p : FieldReady s t r room) → length (nameBytes 0x2C (nameOf s (word t r 1) (word t r 2))) + length (sampleBytes (p .row)) ≤ room
+field-bytes : {s t : List ℕ} {r room : ℕ} (p : FieldReady s t r room)
+    → length (nameBytes 0x2C (nameOf s (word t r 1) (word t r 2))) + length (sampleBytes (p .row)) ≤ room
 field-bytes {s} {t} {r} p = omega (arith, p .fits, length-append (nameBytes 0x2C (nameOf s (word t r 1) (word t r 2))) (sampleBytes (p .row)))
 
 pub name-ready : {s t : List ℕ} {r room : ℕ} → FieldReady s t r room → {x : Record} → Reads t r x → NameReady s (x .first) room 0x2C
 name-ready {t = t} {r = r} p q = rw (q .first) (record { end = word t r 2; quoted = p .quoted; fits = omega (arith, field-bytes p) })
 
 -- the name is written
-module _ {s t : List ℕ} {r : ℕ} {x : Record} {n : ℕ} {out mid : List ℕ} (q : Reads t r x) (k : NameWritten s (x .first) 0x2C n out mid) (p : FieldReady s t r (length out)) where
+module _ {s t : List ℕ} {r : ℕ} {x : Record} {n : ℕ} {out mid : List ℕ}
+    (q : Reads t r x) (k : NameWritten s (x .first) 0x2C n out mid) (p : FieldReady s t r (length out)) where
   named : Lent out n mid (nameBytes 0x2C (nameOf s (word t r 1) (word t r 2))) (length (sampleBytes (p .row)))
   named = let w = (rw (q .first) at k) .tells (word t r 2) (p .quoted) in lent (wrote w) (omega (arith, field-bytes p, w .0))
 
@@ -253,7 +258,8 @@ pub record InFields (s t : List ℕ) (r : ℕ) (all : Bool) (key : List ℕ) (he
 pub keeps-all : (key m : List ℕ) {all : Bool} → all ≡ true → keeps all key m ≡ true
 keeps-all key m e = rw e
 
-module _ (s key : List ℕ) {t : List ℕ} {here : ℕ} {all : Bool} {x : Record} (f : all ≡ false) (q : Reads t here x) {u : List ℕ} (w : u ≡ part s (x .first + 1) (x .end - 1))
+module _ (s key : List ℕ) {t : List ℕ} {here : ℕ} {all : Bool} {x : Record} (f : all ≡ false) (q : Reads t here x)
+    {u : List ℕ} (w : u ≡ part s (x .first + 1) (x .end - 1))
     {b : Bool} (e : b ≡ same key (characters u)) where
   keeps-by : keeps all key (nameOf s (word t here 1) (word t here 2)) ≡ not b
   keeps-by = rw (f, e, w, q .first, q .last)

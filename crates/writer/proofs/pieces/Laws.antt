@@ -22,7 +22,7 @@ use Rattle.chars.specs.Strings.{stringAt, charsAt, part}
 use Rattle.tokens.specs.Spelling.{IsQuoted}
 use Rattle.chars.proofs.Facts.{run-next, run-from, char-next, string-bounds, string-char, chars-char}
 use Rattle.tokens.proofs.Facts.{part-one}
-use Rattle.grammar.proofs.CharTrees.{char-quote}
+use Rattle.grammar.proofs.Facts.{char-quote}
 use Rattle.writer.specs.Spell.{spellChar, spellChars}
 use Rattle.writer.specs.Compact.{over}
 use Rattle.writer.specs.Runs.{isOrdinary, ordinaryEnd, isStructural, isAtom, atomEnd}

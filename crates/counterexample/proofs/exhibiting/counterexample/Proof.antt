@@ -10,7 +10,9 @@ abbrev start : tie.Then1 → tie.Start
 start c = c .before .before .before .before .before .before
 
 returns : tie.Need-returns
-returns c = let a = start (c .before) .args in short (a .new .now) (a .old .now) (a .table1 .now) (a .table2 .now) (a .buffer .now) (c .before .if1 .taken) (c .new .ensures)
+returns c =
+    let a = start (c .before) .args in
+    short (a .new .now) (a .old .now) (a .table1 .now) (a .table2 .now) (a .buffer .now) (c .before .if1 .taken) (c .new .ensures)
 
 -- the buffer is long enough, and Compare has answered: what it left
 module _ (c : tie.After-compare) where
@@ -30,8 +32,8 @@ module _ (c : tie.After-write-witness) where
   abbrev pub not-carried : tie.Else2
   not-carried = c .before .before .before .before
 
-  abbrev pub left : let a = entry (answered (not-carried .before)) .args in let u = answered (not-carried .before) .compare .last .1 .1 in
-      HasCompared (a .new .now) (a .old .now) (a .table1 .now) (a .table2 .now) (a .buffer .now) (answered (not-carried .before) .compare .result) (u .0) (u .1 .0)
+  pub left : let k = answered (not-carried .before) in let a = entry k .args in let u = k .compare .last .1 .1 in
+      HasCompared (a .new .now) (a .old .now) (a .table1 .now) (a .table2 .now) (a .buffer .now) (k .compare .result) (u .0) (u .1 .0)
   left = compared (answered (not-carried .before))
 
 pub counterexample-spec : {M : Type 1} → statement M

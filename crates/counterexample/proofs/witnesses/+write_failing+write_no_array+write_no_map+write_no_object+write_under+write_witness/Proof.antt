@@ -2,24 +2,25 @@
 -- for a field, those of the definition behind its name. Below each member's name stands what is known at its places.
 use Prim.Native.Nat.{ℕ, _+_, _*_, _≤_, _<_}
 use mathlib.Core.Path.{refl}
-use mathlib.Core.List.{List, [], _∷_}
+use mathlib.Core.List.{List}
 use native.Mathlib.Omega.{arith}
 use borrow.Author.Needs.{needs}
 use borrow.Fn.Kind.{PK}
 use borrow.Fn.Kinds.{In}
 use borrow.Fn.PlainCycle.{Measures, is, falls, and}
-use lib.ListN.{length, set}
+use lib.ListN.{length}
 use Rattle.syntax.specs.Holding.{word}
-use Rattle.rows.proofs.Facts.{in-table, quotes-read}
-use Rattle.samples.proofs.Lent.{putBack, wrote-one, last-same}
-use Rattle.counterexample.proofs.witnesses.Laws.{given-to, name-ready, name-written, Around, around-fits, around-less, Opened, Filled, opened, inner-ready}
-use Rattle.counterexample.proofs.witnesses.Laws.{filled, closed, no-array-ready, no-array-written, array-around, no-map-ready}
-use Rattle.counterexample.proofs.witnesses.Laws.{no-map-written, map-object-ready, map-object-written, map-fits, map-new, map-old, map-less, map-within}
-use Rattle.counterexample.proofs.witnesses.Laws.{map-inner, map-filled, map-closes, map-same, map-closed, no-name-ready}
-use Rattle.counterexample.proofs.witnesses.Laws.{no-name-written, member-less, member-ready, member-written}
+use Rattle.rows.proofs.Facts.{quotes-read}
+use Rattle.samples.proofs.Facts.{putBack}
+use Rattle.counterexample.proofs.witnesses.Laws.{given-to, name-ready, name-written, no-array-ready, no-array-written}
+use Rattle.counterexample.proofs.witnesses.Laws.{array-fits, array-new, array-old, array-less, array-within, array-inner, array-filled}
+use Rattle.counterexample.proofs.witnesses.Laws.{array-closes, array-same, array-closed, no-map-ready, no-map-written}
+use Rattle.counterexample.proofs.witnesses.Laws.{map-object-ready, map-object-written, map-fits, map-new, map-old, map-less, map-within}
+use Rattle.counterexample.proofs.witnesses.Laws.{map-inner, map-filled, map-closes, map-same, map-closed, no-name-ready, no-name-written}
+use Rattle.counterexample.proofs.witnesses.Laws.{member-less, member-ready, member-written}
 use Rattle.counterexample.proofs.witnesses.Members.{Named, Valued, Complete}
 use Rattle.counterexample.proofs.witnesses.Members.{member-name-ready, under-lent, others-lent, behind-name, behind-value, behind-others}
-use Rattle.counterexample.proofs.witnesses.Members.{member-closed, under-fits, under-ready, under-witness, null-fits, under-null}
+use Rattle.counterexample.proofs.witnesses.Members.{member-same, member-closed, under-fits, under-ready, under-witness, null-fits, under-null}
 use Rattle.counterexample.proofs.witnesses.write_failing.Reads as write-failing
 use Rattle.counterexample.proofs.witnesses.write_failing.Kinds as write-failing-kinds
 use Rattle.counterexample.proofs.witnesses.+write_failing+write_no_array+write_no_map+write_no_object+write_under+write_witness.Lts-write_failing as write-failing-lts
@@ -188,19 +189,6 @@ module _ (t : ℕ) where
         let d = name-done value-done in
         behind-others (complete-start .pre .1) (name-read d .row-at .ensures) (key-read d .between .ensures) (valued value-done) (c .write-others .ensures)
 
-  under-requires : write-failing-lts.Need-write-under-requires (write-failing-claims t) (write-failing-at t) write-failing.Post
-  under-requires c κs =
-      let d = c .before .before .before in
-      let p = named-start d .pre in
-      let f = d .before .before .before .find-under .ensures in
-      (omega (arith, p .0), under-lent (p .1) (name-read d .row-at .ensures) (key-read d .between .ensures) (named d) f)
-
-  others-requires : write-failing-lts.Need-write-others-requires (write-failing-claims t) (write-failing-at t) write-failing.Post
-  others-requires c κs =
-      let d = c .before .before .before in
-      let n = name-done d in
-      others-lent (valued-start d .pre .1) (name-read n .row-at .ensures) (key-read n .between .ensures) (valued d)
-
 -- ---- write_no_array
 
 abbrev write-no-array-claims : ℕ → write-no-array-lts.Claims
@@ -213,33 +201,21 @@ write-no-array-claims t = (
   write-sample-reads.Learnt,
 )
 
-module _ (t : ℕ) where
-  -- the entry, from where the new one's generic type was read
-  abbrev array-start : write-no-array-lts.After-generic-at (write-no-array-claims t) (write-no-array-at t) write-no-array.Post
-      → write-no-array-lts.Start (write-no-array-claims t) (write-no-array-at t) write-no-array.Post
-  array-start c = c .before .before .before .before .before .before
+-- the element is written, and the bracket behind it fits
+module _ (t : ℕ) (c : write-no-array-lts.After-write-witness (write-no-array-claims t) (write-no-array-at t) write-no-array.Post) where
+  abbrev both-arrays : write-no-array-lts.After-enum-told (write-no-array-claims t) (write-no-array-at t) write-no-array.Post
+  both-arrays = c .before .before
 
-  -- both are of arrays
-  module _ (c : write-no-array-lts.After-enum-told (write-no-array-claims t) (write-no-array-at t) write-no-array.Post) where
-    abbrev pub arrays-start : write-no-array-lts.Start (write-no-array-claims t) (write-no-array-at t) write-no-array.Post
-    arrays-start = array-start (c .before .before)
+  abbrev array-read : write-no-array-lts.After-generic-at (write-no-array-claims t) (write-no-array-at t) write-no-array.Post
+  array-read = both-arrays .before .before
 
-    pub element : Around (arrays-start .pre .1 .given) (0x5B ∷ []) 0x5D
-    element = array-around (c .before .before .generic-at .ensures) (arrays-start .pre .1) (c .enum-told .given .1)
+  abbrev pub array-start : write-no-array-lts.Start (write-no-array-claims t) (write-no-array-at t) write-no-array.Post
+  array-start = array-read .before .before .before .before .before .before
 
-    pub bracket : Opened element (arrays-start .args .out .now) 1 (set (arrays-start .args .out .now) 0 0x5B)
-    bracket = opened element (wrote-one (arrays-start .args .out .now) 0x5B (omega (arith, around-fits element))) refl
-
-  -- the element is written
-  module _ (c : write-no-array-lts.After-write-witness (write-no-array-claims t) (write-no-array-at t) write-no-array.Post) where
-    abbrev pub arrays-told : write-no-array-lts.After-enum-told (write-no-array-claims t) (write-no-array-at t) write-no-array.Post
-    arrays-told = c .before .before
-
-    abbrev pub element-out : List ℕ
-    element-out = putBack 1 (set (arrays-start arrays-told .args .out .now) 0 0x5B) (c .write-witness .last .1 .1 .1 .1 .1 .1 .0)
-
-    pub element-filled : Filled (element arrays-told) (arrays-start arrays-told .args .out .now) (1 + c .write-witness .result) element-out
-    element-filled = filled (element arrays-told) (bracket arrays-told) (c .write-witness .ensures)
+  pub array-added : 1 + c .write-witness .result + 1 ≤ length (array-start .args .out .now)
+  array-added =
+      let h = array-read .generic-at .ensures in
+      array-filled h (both-arrays .enum-told .given .1) (array-start .args .out .now) (array-start .pre .1) (c .write-witness .ensures) .room
 
 -- ---- write_no_map
 
@@ -323,36 +299,36 @@ pub +write-failing+write-no-array+write-no-map+write-no-object+write-under+write
     (λ c. let d = c .before .before in omega (arith, named t d .room, named t d .same))  -- out[n..]
     (λ c. let d = c .before .before in omega (arith, named t d .room, named t d .same))
     (λ c. search needs)
-    (under-requires t)
+    (λ c κs. let d = c .before .before .before in let n = named t d in (omega (arith, named-start t d .pre .0), search under-lent))  -- write-under-requires
     (λ c. let d = c .before .before in omega (arith, valued t d .room, valued-start t d .good))  -- n + ..
     (λ c. let d = c .before .before in omega (arith, valued t d .room, valued t d .same))  -- out[n..]
     (λ c. let d = c .before .before in omega (arith, valued t d .room, valued t d .same))
     (λ c. search needs)
-    (others-requires t)
+    (λ c κs. let v = valued t (c .before .before .before) in search others-lent)  -- write-others-requires
     (λ c. let d = c .before .before in omega (arith, complete t d .room, complete-start t d .good))  -- n + ..
     (λ c. let d = c .before .before in omega (arith, complete t d .room, complete t d .same))  -- out[n]
     (λ c. let d = c .before .before in omega (arith, complete t d .room, complete-start t d .good))  -- n + 1
-    (λ c. let d = c .before .before in last-same (complete t d) 0x7D)  -- same-length
+    (λ c. let d = c .before .before in member-same (complete-start t d .pre .1) (complete t d))  -- same-length
     (λ c. let d = c .before .before in member-closed (complete-start t d .pre .1) (complete t d)))  -- returns
     -- ---- write-no-array
     (λ t. write-no-array-lts.spec (write-no-array-claims t) (write-no-array-at t) write-no-array.Post
     (λ c κs. search needs)  -- generic-at-requires
-    (λ c. search needs)  -- enum-told
-    (λ c. omega (arith, bracket t c .room))  -- slice-write-out
-    (λ c. omega (arith, in-table (element t c .inner .new .row) .here, arrays-start t c .good))  -- add-write-witness
-    (λ c. omega (arith, in-table (element t c .inner .old .row) .here, arrays-start t c .good))  -- add-write-witness-2
-    (λ c. omega (arith, bracket t c .room, bracket t c .same))  -- sub-write-witness
-    (λ c. omega (arith, bracket t c .room, bracket t c .same))  -- part-write-witness-start
-    (λ c. search needs)  -- part-write-witness-end
-    (λ c κs. let d = c .before in (around-less (element t d) (arrays-start t d .pre .0), inner-ready (element t d) (bracket t d)))  -- write-witness-requires
-    (λ c. let d = c .before .before in omega (arith, element-filled t d .room, arrays-start t (arrays-told t d) .good))  -- add-n
-    (λ c. let d = c .before .before in omega (arith, element-filled t d .room, element-filled t d .same))  -- slice-write-out-2
-    (λ c. let d = c .before .before in omega (arith, element-filled t d .room, arrays-start t (arrays-told t d) .good))  -- add-result
-    (λ c κs. search no-array-ready)  -- write-sample-requires
-    (λ c. let d = c .before .before in last-same (element-filled t d) 0x5D)  -- same-length
-    (λ c. let d = c .before .before in closed (element t (arrays-told t d)) (element-filled t d))  -- returns
-    (λ c. search needs)  -- same-length-2
-    (λ c. search no-array-written))  -- returns-2
+    (λ c. search needs)  -- Array
+    (λ c. search array-fits)  -- out[0]
+    (λ c. search array-new)  -- a + 2
+    (λ c. search array-old)  -- b + 2
+    (λ c. search array-within)  -- out[1..]
+    (λ c. search array-within)
+    (λ c. search needs)
+    (λ c κs. (search array-less, search array-inner))  -- write-witness-requires
+    (λ c. omega (arith, array-added t (c .before .before), array-start t (c .before .before) .good))  -- 1 + ..
+    (λ c. search array-closes)  -- out[n]
+    (λ c. omega (arith, array-added t (c .before .before), array-start t (c .before .before) .good))  -- n + 1
+    (λ c κs. search no-array-ready)  -- any other
+    (λ c. search array-same)  -- Array
+    (λ c. search array-closed)
+    (λ c. search needs)  -- any other
+    (λ c. search no-array-written))
     -- ---- write-no-map
     (λ t. write-no-map-lts.spec (write-no-map-claims t) (write-no-map-at t) write-no-map.Post
     (λ c κs. search needs)  -- generic-at-requires

@@ -1,4 +1,5 @@
--- `samples::fresh::count_fields` meets its contract. The loop's invariant: of the names before row `row`, n begin with the letters. The measure is how many are left.
+-- `samples::fresh::count_fields` meets its contract. The loop's invariant: of the names before row `row`, n begin with the letters.
+-- The measure is how many are left.
 use Prim.Native.Nat.{ℕ, _+_, _<_}
 use mathlib.Core.Path.{_≡_, sym, ap, _∙_}
 use mathlib.Core.Logic.{⊎-elim}
@@ -51,9 +52,10 @@ counted c =
 loop-again : tie.Need-loop-again Inv μ
 loop-again c =
     let b = c .before .before in
-    let i = turn (c .before) .before .loop .inv in
+    let t = turn (c .before) in
     let name = b .before .between .ensures in
-    count-next i (turn (c .before) .loop-test .taken) (b .before .before .row-at2 .ensures) (c .row-at3 .ensures) name (b .begins .ensures) (counted (c .before))
+    let q = b .before .before .row-at2 .ensures in
+    count-next (t .before .loop .inv) (t .loop-test .taken) q (c .row-at3 .ensures) name (b .begins .ensures) (counted (c .before))
 
 pub count-fields-spec : {M : Type 1} → statement M
 count-fields-spec = tie.close (tie.spec Inv μ

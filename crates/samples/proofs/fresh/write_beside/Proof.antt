@@ -101,6 +101,11 @@ module _ (c : tie.After-write-fields) where
   pub lent₄ : Lent (out start) n₄ out₄ (((opened ++ name start) ++ isNull) ++ others start) 1
   lent₄ = lent-more (lent₃ (valued found)) (others start) (omega arith) (c .write-fields .ensures .tells (fields found))
 
+returns : tie.Need-returns
+returns c =
+    let d = c .before .before in
+    beyond-as (beyond-same (start d .pre .0 .row)) (lent-last (lent₄ d) (omega arith) 0x7D (sym (beside-spelled (given (start d) .is))))
+
 pub write-beside-spec : {M : Type 1} → statement M
 write-beside-spec = tie.close (tie.spec
     (λ c. omega (arith, room (c .before .before .before)))  -- out[0]
@@ -128,4 +133,4 @@ write-beside-spec = tie.close (tie.spec
     (λ c. let d = c .before .before in omega (arith, lent₄ d .room, lent₄ d .same))  -- out[n]
     (λ c. let d = c .before .before in omega (arith, lent₄ d .room, start d .good))  -- n + 1
     (λ c. let d = c .before .before in last-same (lent₄ d) 0x7D)  -- same-length
-    (λ c. let d = c .before .before in beyond-as (beyond-same (start d .pre .0 .row)) (lent-last (lent₄ d) (omega arith) 0x7D (sym (beside-spelled (given (start d) .is))))))  -- returns
+    returns)

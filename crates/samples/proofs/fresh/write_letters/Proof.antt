@@ -8,7 +8,8 @@ use native.Mathlib.Omega.{arith}
 use mir.Syntax.{w64}
 use mir.Val.{Fits}
 use borrow.Author.Needs.{needs}
-use Rattle.samples.proofs.fresh.Laws.{Lettering, letters-start, letters-same, letters-in, letters-end, letters-more, letters-room, one-at, one-in, two-at, two-in, letter-a, letter-b}
+use Rattle.samples.proofs.fresh.Laws.{Lettering, letters-start, letters-same, letters-in, letters-end, letters-more}
+use Rattle.samples.proofs.fresh.Laws.{letters-room, one-at, one-in, two-at, two-in, letter-a, letter-b}
 use Rattle.samples.proofs.fresh.write_letters.Statement.{statement}
 use Rattle.samples.proofs.fresh.write_letters.Tie as tie
 

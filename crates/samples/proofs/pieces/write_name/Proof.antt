@@ -13,10 +13,11 @@ use Rattle.samples.proofs.pieces.write_name.Statement.{statement}
 use Rattle.samples.proofs.pieces.write_name.Tie as tie
 
 -- the byte before the name is written
-first : (d : tie.Start) → let a = d .args in Lent (a .out .now) 1 (set (a .out .now) 0 (a .lead)) (a .lead ∷ []) (length (stringBytes (a .text .now) (a .at)) + 1)
+first : (d : tie.Start) →
+    let a = d .args in
+    Lent (a .out .now) 1 (set (a .out .now) 0 (a .lead)) (a .lead ∷ []) (length (stringBytes (a .text .now) (a .at)) + 1)
 first d = lent (wrote-one (d .args .out .now) (d .args .lead) (omega (arith, name-room (d .pre)))) (omega (arith, name-room (d .pre)))
 
--- the buffer behind it is lent
 -- the name is written
 module _ (c : tie.After-struct-known) where
   abbrev pub start : tie.Start

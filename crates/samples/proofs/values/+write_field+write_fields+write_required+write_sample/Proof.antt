@@ -19,7 +19,8 @@ use Rattle.definitions.proofs.Facts.{partRows, part-rows, FieldHere, field-here
 use Rattle.rows.proofs.Facts.{in-table, as-row, part-object, quotes-read}
 use Rattle.samples.specs.Writing.{keeps}
 use Rattle.samples.proofs.values.Laws.{array-fits, array-written, map-fits, map-written, name-fits, name-written, body-row, body-fits, required-less}
-use Rattle.samples.proofs.values.Laws.{required-ready, sample-required, fields-ready, required-least, required-opens, required-closes, required-room, required-same, required-empty}
+use Rattle.samples.proofs.values.Laws.{required-ready, sample-required, fields-ready, required-least, required-opens}
+use Rattle.samples.proofs.values.Laws.{required-closes, required-room, required-same, required-empty}
 use Rattle.samples.proofs.values.Laws.{required-closed, name-ready, named-within, value-ready, field-room, field-same, field-written, InFields}
 use Rattle.samples.proofs.values.Laws.{members-none, keeps-all, keeps-other, keeps-not, in-start, in-same, in-within, in-ready, in-room, in-kept}
 use Rattle.samples.proofs.values.Laws.{in-skipped, in-end}
@@ -186,7 +187,8 @@ module _ (t : ℕ) where
   fields-added c =
       let d = c .before .before .before .before in
       let l = turn d in
-      omega (arith, entry d .good, in-room (entry d .pre .1) (l .before .loop .inv) (l .loop-test .taken) (name-kept d) (c .before .before .write-field .ensures))
+      let w = c .before .before .write-field .ensures in
+      omega (arith, entry d .good, in-room (entry d .pre .1) (l .before .loop .inv) (l .loop-test .taken) (name-kept d) w)
 
   loop-again : write-fields-lts.Need-loop-again (fields-claims t) (fields-at t) write-fields.Post Inv μ
   loop-again c =
