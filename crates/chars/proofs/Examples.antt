@@ -166,14 +166,17 @@ zero = refl
 
 -- `a\u00e9"`, and `é` in UTF-8 behind it
 pub whole : stringAt (0x61 ∷ 0x5c ∷ 0x75 ∷ 0x30 ∷ 0x30 ∷ 0x65 ∷ 0x39 ∷ 0xc3 ∷ 0xa9 ∷ 0x78 ∷ 0x22 ∷ 0x2c ∷ []) 0 ≡ Ends 11
-unfolding codeOf digit escapeOf lowest highest sixBits stopAt wrongAt hexPair partnerAt restAt unicodeAt escapeAt twoAt threeAt fourAt charFrom charAt stringFrom stringAt charsFrom charsAt
+unfolding codeOf digit escapeOf lowest highest sixBits stopAt wrongAt hexPair partnerAt restAt unicodeAt escapeAt twoAt threeAt fourAt
+    charFrom charAt stringFrom stringAt charsFrom charsAt
 whole = refl
 
 -- `\u0061` and `a` are the same name
 pub same-a : same (characters (0x78 ∷ 0x5c ∷ 0x75 ∷ 0x30 ∷ 0x30 ∷ 0x36 ∷ 0x31 ∷ [])) (characters (0x78 ∷ 0x61 ∷ [])) ≡ true
-unfolding codeOf digit escapeOf lowest highest sixBits stopAt wrongAt hexPair partnerAt restAt unicodeAt escapeAt twoAt threeAt fourAt charFrom charAt stringFrom stringAt charsFrom charsAt
+unfolding codeOf digit escapeOf lowest highest sixBits stopAt wrongAt hexPair partnerAt restAt unicodeAt escapeAt twoAt threeAt fourAt
+    charFrom charAt stringFrom stringAt charsFrom charsAt
 same-a = refl
 
 pub other-case : same (characters (0x41 ∷ [])) (characters (0x61 ∷ [])) ≡ false
-unfolding codeOf digit escapeOf lowest highest sixBits stopAt wrongAt hexPair partnerAt restAt unicodeAt escapeAt twoAt threeAt fourAt charFrom charAt stringFrom stringAt charsFrom charsAt
+unfolding codeOf digit escapeOf lowest highest sixBits stopAt wrongAt hexPair partnerAt restAt unicodeAt escapeAt twoAt threeAt fourAt
+    charFrom charAt stringFrom stringAt charsFrom charsAt
 other-case = refl

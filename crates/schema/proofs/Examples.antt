@@ -43,7 +43,9 @@ definedBy s (parsed n e) = definitionAt s n
 
 -- the definition of a schema; who unfolds this unfolds all that reading computes with
 defines : List ℕ → Defined Located
-unfolding codeOf digit escapeOf lowest highest sixBits unexpected runFrom run isSpace stopAt wrongAt hexPair partnerAt restAt unicodeAt escapeAt twoAt threeAt fourAt charFrom charAt stringFrom stringAt charsFrom charsAt wholeEnd signEnd powerAt exponentAt fractionAt unsignedAt numberAt firstOf wordAt afterItem itemsFrom itemsAt listAt repeated nameAt afterName valueAt alone readText
+unfolding codeOf digit escapeOf lowest highest sixBits unexpected runFrom run isSpace stopAt wrongAt hexPair partnerAt restAt unicodeAt
+    escapeAt twoAt threeAt fourAt charFrom charAt stringFrom stringAt charsFrom charsAt wholeEnd signEnd powerAt exponentAt fractionAt
+    unsignedAt numberAt firstOf wordAt afterItem itemsFrom itemsAt listAt repeated nameAt afterName valueAt alone readText
 defines s = definedBy s (readSchema s)
 
 -- Check of a document and a schema, with tables of so many words
