@@ -6,7 +6,8 @@ use mathlib.Core.List.{List}
 use lib.Dec.{eqb}
 use lib.ListN.{drop}
 use Rattle.model.specs.Value.{isDigit}
-use Rattle.model.specs.Date.{at, twoDigits, two, isDay, isClock}
+use Rattle.model.specs.Calendar.{on}
+use Rattle.model.specs.Date.{at, twoDigits, two, dayOf, isDay, isClock, minutes}
 use Rattle.chars.specs.Strings.{charsAt, characters}
 use Rattle.date.specs.declared.walk.Number.{Number}
 use Rattle.date.specs.declared.walk.Number.the-variants.{Read, Wrong}
@@ -49,12 +50,12 @@ MarkedTold s l k c (Read v j) = (eqb (at l k) c && twoDigits l (k + 1) ≡ true)
 MarkedTold s l k c Wrong = eqb (at l k) c && twoDigits l (k + 1) ≡ false
 
 abbrev pub ClockTold : List ℕ → List ℕ → ℕ → Time → Type 0
-ClockTold s l k (At h m j) = (isClock l k ≡ true) × (h ≡ two l k) × (m ≡ two l (k + 3)) × Stands s j l (k + 5)
+ClockTold s l k (At n j) = (isClock l k ≡ true) × (n ≡ minutes l k) × Stands s j l (k + 5)
 ClockTold s l k NoTime = isClock l k ≡ false
 
 -- a day is read at the start
 abbrev pub DayTold : List ℕ → Date → Type 0
 DayTold s (On y m d j) =
     let l = characters s in
-    (isDay l ≡ true) × (y ≡ 100 * two l 0 + two l 2) × (m ≡ two l 5) × (d ≡ two l 8) × Stands s j l 10
+    (isDay l ≡ true) × (on y m d ≡ dayOf l) × Stands s j l 10
 DayTold s NoDate = isDay (characters s) ≡ false

@@ -1,8 +1,6 @@
 // The Gregorian calendar (01, "Dates").
 ghost use mathlib.Core.Path.{_≡_};
-ghost use mathlib.Core.Bool.{_&&_};
-ghost use lib.Dec.{leb};
-ghost use Rattle.model.specs.Date.{isLeap, daysIn};
+ghost use Rattle.model.specs.Calendar.{isLeap, daysIn, on, inCalendar};
 
 fn is_leap(year: u32) -> bool
     ensures { λ r. ⌜ r ≡ isLeap year ⌝ }
@@ -28,7 +26,7 @@ fn days_in(year: u32, month: u32) -> u32
 
 // Months 01 to 12, and days by the month.
 pub fn in_calendar(year: u32, month: u32, day: u32) -> bool
-    ensures { λ r. ⌜ r ≡ leb 1 month && leb month 12 && leb 1 day && leb day (daysIn year month) ⌝ }
+    ensures { λ r. ⌜ r ≡ inCalendar (on year month day) ⌝ }
 {
     if month < 1 {
         return false;

@@ -1,4 +1,4 @@
-// The day of a date; the hour and minute of its time and of its offset.
+// The day of a date; the minutes of its time and of its offset.
 use crate::calendar::in_calendar;
 use crate::walk::Number;
 use crate::walk::four;
@@ -19,9 +19,9 @@ pub enum Date {
     NoDate,
 }
 
-// A time of the day, and the place behind it.
+// The minutes of a time of the day, and the place behind it.
 pub enum Time {
-    At { hour: u32, minute: u32, next: usize },
+    At { minutes: u32, next: usize },
     NoTime,
 }
 
@@ -81,5 +81,8 @@ pub fn clock(body: &[u8], at: usize) -> Time
     if minute > 59 {
         return Time::NoTime;
     }
-    Time::At { hour, minute, next }
+    Time::At {
+        minutes: 60 * hour + minute,
+        next,
+    }
 }

@@ -1,14 +1,17 @@
-// Dates (01, "Dates"; RFC 3339, section 5.6).
+// Dates (01, "Dates"; 02, L2; RFC 3339, section 5.6).
 mod calendar;
 mod endings;
 mod fields;
+mod seconds;
 mod walk;
 
+use crate::endings::TimeOffset;
 use crate::endings::ending;
 use crate::fields::Date;
 use crate::fields::Time;
 use crate::fields::clock;
 use crate::fields::day;
+use crate::seconds::has_second;
 use crate::walk::Found;
 use crate::walk::Number;
 use crate::walk::either;
@@ -17,14 +20,14 @@ ghost use mathlib.Core.Path.{_≡_};
 ghost use Rattle.model.specs.Date.{isDate};
 ghost use Rattle.chars.specs.Strings.{characters};
 
-// Whether a string, as the bytes between its quotes, is a date. Seconds are 00 to 59.
+// Whether a string, as the bytes between its quotes, is a date.
 pub fn is_date(body: &[u8]) -> bool
     ensures { λ r. ⌜ r ≡ isDate (characters (now (body .entry))) ⌝ }
 {
     let Date::On {
         year: _,
-        month: _,
-        day: _,
+        month,
+        day: date,
         next: letter,
     } = day(body)
     else {
@@ -34,8 +37,7 @@ pub fn is_date(body: &[u8]) -> bool
         return false;
     };
     let Time::At {
-        hour: _,
-        minute: _,
+        minutes,
         next: colon,
     } = clock(body, time)
     else {
@@ -48,8 +50,8 @@ pub fn is_date(body: &[u8]) -> bool
     else {
         return false;
     };
-    if second > 59 {
+    let TimeOffset::Minutes { east, west } = ending(body, next) else {
         return false;
-    }
-    ending(body, next)
+    };
+    has_second(second, month, date, minutes, east, west)
 }

@@ -1,10 +1,12 @@
 -- Worked examples of dates, computed. Those of 01's table are in `Starred`.
+use Prim.Native.Nat.{ℕ}
 use Prim.Native.String.{String}
 use mathlib.Core.Path.{_≡_, refl}
 use mathlib.Core.Bool.{Bool, true, not, _&&_}
 use mathlib.Core.List.{List, [], _∷_}
 use Rattle.model.specs.Text.{text}
-use Rattle.model.specs.Date.{isDate}
+use Rattle.model.specs.Calendar.{Day, on, dayBefore, dayAfter}
+use Rattle.model.specs.Date.{utcDay, utcMinute, isDate}
 
 -- every one is a date; none is
 abbrev dates : List String → Bool
@@ -15,9 +17,13 @@ abbrev others : List String → Bool
 others [] = true
 others (s ∷ ss) = not (isDate (text s)) && others ss
 
--- RFC 3339, section 5.8, without its leap seconds
+-- RFC 3339, section 5.8
 published :
-    dates ("1985-04-12T23:20:50.52Z" ∷ "1996-12-19T16:39:57-08:00" ∷ "1937-01-01T12:00:27.87+00:20" ∷ []) ≡ true
+    dates
+    ("1985-04-12T23:20:50.52Z" ∷ "1996-12-19T16:39:57-08:00" ∷ "1990-12-31T23:59:60Z" ∷ "1990-12-31T15:59:60-08:00"
+    ∷ "1937-01-01T12:00:27.87+00:20" ∷ [])
+    ≡ true
+unfolding utcDay
 published = refl
 
 years :
@@ -89,3 +95,89 @@ ends :
     ∷ "2023-01-01T00:00:00.5Z5" ∷ [])
     ≡ true
 ends = refl
+
+-- ---- second 60 (02, L2)
+
+-- 02's own
+leap-seconds :
+    (dates ("1990-12-31T15:59:60-08:00" ∷ "0000-01-01T07:59:60+08:00" ∷ []) ≡ true) × (others ("2024-04-30T23:59:60Z" ∷ []) ≡ true)
+unfolding utcDay dayBefore
+leap-seconds = (refl, refl)
+
+-- over the end of a month and of a year, by the least and the greatest offset: 30 June and 1 July, 31 December and 1 January, years 0000 and 9999
+leap-ends :
+    (dates
+    ("2024-06-30T23:59:60Z" ∷ "2024-06-30T23:58:60-00:01" ∷ "2024-06-30T00:00:60-23:59" ∷ "2024-07-01T00:00:60+00:01" ∷ "2024-07-01T23:58:60+23:59"
+    ∷ "2024-12-31T23:59:60-00:00" ∷ "2024-12-31T23:58:60-00:01" ∷ "2024-12-31T00:00:60-23:59" ∷ "2025-01-01T00:00:60+00:01" ∷ "2025-01-01T23:58:60+23:59"
+    ∷ "0000-01-01T00:00:60+00:01" ∷ "0000-01-01T23:58:60+23:59" ∷ "0000-12-31T00:00:60-23:59" ∷ "9999-01-01T23:58:60+23:59" ∷ "9999-12-31T00:00:60-23:59"
+    ∷ "9999-12-31T23:59:60Z" ∷ [])
+    ≡ true)
+    × (others
+    ("2024-06-30T23:58:60+23:59" ∷ "2024-06-30T00:00:60+23:59" ∷ "2024-07-01T00:00:60-23:59" ∷ "2024-07-01T23:58:60-23:59" ∷ "2024-07-01T23:59:60Z"
+    ∷ "2024-06-29T23:59:60Z" ∷ "2024-06-29T23:59:60-23:59" ∷ "2024-12-30T23:59:60-23:59" ∷ "2024-12-31T00:00:60+23:59" ∷ "2025-01-01T00:00:60-23:59"
+    ∷ "0000-01-01T00:00:60Z" ∷ "0000-01-01T07:59:60-08:00" ∷ "9999-12-31T23:58:60+23:59" ∷ "2024-07-02T00:00:60+00:01" ∷ "2025-01-02T00:00:60+00:01" ∷ [])
+    ≡ true)
+unfolding utcDay dayBefore dayAfter
+leap-ends = (refl, refl)
+
+-- another minute, and the offset taken the other way
+leap-minutes :
+    others
+    ("2024-06-30T23:58:60Z" ∷ "2024-06-30T22:59:60Z" ∷ "2024-12-31T00:00:60Z" ∷ "2024-12-31T23:59:60+00:01" ∷ "2024-12-31T23:59:60-00:01"
+    ∷ "1990-12-31T15:59:60+08:00" ∷ "1991-01-01T07:59:60-08:00" ∷ "2024-06-30T24:59:60-01:00" ∷ "2024-06-30T23:60:60Z" ∷ [])
+    ≡ true
+unfolding utcDay dayBefore dayAfter
+leap-minutes = refl
+
+-- the ends of other months
+leap-months :
+    others
+    ("2024-02-29T23:59:60Z" ∷ "2024-03-01T00:00:60+00:01" ∷ "2023-02-28T23:59:60Z" ∷ "2023-03-01T00:00:60+00:01" ∷ "2024-01-31T23:59:60Z"
+    ∷ "2024-03-31T23:59:60Z" ∷ "2024-05-31T23:59:60Z" ∷ "2024-09-30T23:59:60Z" ∷ "2024-11-30T23:59:60Z" ∷ "2024-06-31T23:59:60Z" ∷ [])
+    ≡ true
+unfolding utcDay dayBefore
+leap-months = refl
+
+-- with a fraction, and under small letters; never second 61
+leap-forms :
+    (dates ("2024-06-30T23:59:60.0Z" ∷ "2024-12-31T12:29:60.999999-11:30" ∷ "2024-12-31T23:59:60z" ∷ "2024-07-01t01:59:60.5+02:00" ∷ []) ≡ true)
+    × (others ("2024-06-30T23:59:61Z" ∷ "2024-12-31T23:59:61.0z" ∷ "2024-12-31T15:59:61-08:00" ∷ "2024-06-30T23:59:99Z" ∷ "2024-06-30T23:59:60.Z" ∷ []) ≡ true)
+unfolding utcDay dayBefore
+leap-forms = (refl, refl)
+
+-- the day and the minute in UTC
+abbrev utc : Day → ℕ → ℕ → ℕ → Day → ℕ → Type 0
+utc x time east west y n = (utcDay x time east west ≡ y) × (utcMinute time east west ≡ n)
+
+utc-times :
+    utc (on 2024 3 1) 0 1 0 (on 2024 2 29) 1439
+    × utc (on 2023 3 1) 0 1 0 (on 2023 2 28) 1439
+    × utc (on 1900 3 1) 0 1 0 (on 1900 2 28) 1439
+    × utc (on 2024 2 29) 1439 0 1 (on 2024 3 1) 0
+    × utc (on 2024 2 28) 1439 0 1 (on 2024 2 29) 0
+    × utc (on 2023 2 28) 1439 0 1439 (on 2023 3 1) 1438
+    × utc (on 2024 7 1) 0 1439 0 (on 2024 6 30) 1
+    × utc (on 2024 5 1) 60 90 0 (on 2024 4 30) 1410
+    × utc (on 2025 1 1) 479 480 0 (on 2024 12 31) 1439
+    × utc (on 2024 12 31) 1439 0 1439 (on 2025 1 1) 1438
+    × utc (on 9999 12 31) 1439 0 1 (on 10000 1 1) 0
+    × utc (on 2024 6 15) 720 0 0 (on 2024 6 15) 720
+    × utc (on 2024 6 15) 720 720 0 (on 2024 6 15) 0
+    × utc (on 2024 6 15) 720 721 0 (on 2024 6 14) 1439
+unfolding utcDay dayBefore dayAfter
+utc-times = (
+  (refl, refl),
+  (refl, refl),
+  (refl, refl),
+  (refl, refl),
+  (refl, refl),
+  (refl, refl),
+  (refl, refl),
+  (refl, refl),
+  (refl, refl),
+  (refl, refl),
+  (refl, refl),
+  (refl, refl),
+  (refl, refl),
+  (refl, refl),
+)

@@ -1,4 +1,6 @@
 pub mod Basics
+pub mod Days
+pub mod LeapSeconds
 pub mod Integers
 pub mod Deciding
 pub mod Formed

@@ -1,11 +1,12 @@
--- Dates (01, "Dates"; RFC 3339, section 5.6), on the characters of a string after unescaping.
+-- Dates (01, "Dates"; 02, L2; RFC 3339, section 5.6), on the characters of a string after unescaping.
 use Prim.Native.Nat.{ℕ, _+_, _*_, _-_, _%_}
-use mathlib.Core.Bool.{Bool, false, not, cond, _&&_, _||_}
+use mathlib.Core.Bool.{Bool, not, cond, _&&_, _||_}
 use mathlib.Core.List.{List, [], _∷_}
-use lib.Dec.{leb, eqb}
+use lib.Dec.{leb, ltb, eqb}
 use lib.ListN.{length, getD, drop}
 use Rattle.model.specs.Text.{text, same}
 use Rattle.model.specs.Value.{isDigit}
+use Rattle.model.specs.Calendar.{Day, on, inCalendar, dayBefore, dayAfter}
 
 -- the character at i; 0 past the end
 abbrev pub at : List ℕ → ℕ → ℕ
@@ -19,41 +20,76 @@ twoDigits s i = isDigit (at s i) && isDigit (at s (i + 1))
 abbrev pub two : List ℕ → ℕ → ℕ
 two s i = 10 * (at s i - 0x30) + (at s (i + 1) - 0x30)
 
--- "29 February in years divisible by 4 but not 100, or by 400"
-abbrev pub isLeap : ℕ → Bool
-isLeap y = eqb (y % 400) 0 || (eqb (y % 4) 0 && not (eqb (y % 100) 0))
+-- the day that is written at the start
+abbrev pub dayOf : List ℕ → Day
+dayOf s = on (100 * two s 0 + two s 2) (two s 5) (two s 8)
 
--- "days by the Gregorian month"
-abbrev pub daysIn : ℕ → ℕ → ℕ
-daysIn y m = cond (eqb m 2) (cond (isLeap y) 29 28) (cond (eqb m 4 || eqb m 6 || eqb m 9 || eqb m 11) 30 31)
-
--- `YYYY-MM-DD` from the start: "Years 0000 to 9999, months 01 to 12"
+-- `YYYY-MM-DD` from the start: "Years 0000 to 9999, months 01 to 12, days by the Gregorian month"
 abbrev pub isDay : List ℕ → Bool
 isDay s =
-    twoDigits s 0 && twoDigits s 2 && eqb (at s 4) 0x2D && twoDigits s 5 && eqb (at s 7) 0x2D && twoDigits s 8
-    && leb 1 (two s 5) && leb (two s 5) 12 && leb 1 (two s 8) && leb (two s 8) (daysIn (100 * two s 0 + two s 2) (two s 5))
+    twoDigits s 0 && twoDigits s 2 && eqb (at s 4) 0x2D && twoDigits s 5 && eqb (at s 7) 0x2D && twoDigits s 8 && inCalendar (dayOf s)
 
 -- `hh:mm` from i: "Hours 00 to 23, minutes 00 to 59", of the time and of the offset
 abbrev pub isClock : List ℕ → ℕ → Bool
 isClock s i = twoDigits s i && eqb (at s (i + 2)) 0x3A && twoDigits s (i + 3) && leb (two s i) 23 && leb (two s (i + 3)) 59
 
--- "`Z` or `z` or `+hh:mm` or `-hh:mm`", and nothing behind
-abbrev pub isZone : List ℕ → Bool
-isZone s =
-    same s (text "Z") || same s (text "z")
-    || (eqb (length s) 6 && (eqb (at s 0) 0x2B || eqb (at s 0) 0x2D) && isClock s 1)
+-- the minutes that it spells
+abbrev pub minutes : List ℕ → ℕ → ℕ
+minutes s i = 60 * two s i + two s (i + 3)
 
--- digits, perhaps none, and then a zone
-abbrev pub isZoneAfterDigits : List ℕ → Bool
-isZoneAfterDigits [] = false
-isZoneAfterDigits (c ∷ s) = isZone (c ∷ s) || (isDigit c && isZoneAfterDigits s)
+-- `hh:mm` behind the sign c, and nothing behind it
+abbrev pub isOffset : ℕ → List ℕ → Bool
+isOffset c s = eqb (at s 0) c && isClock s 1 && eqb (length s) 6
+
+-- "`Z` or `z` or `+hh:mm` or `-hh:mm`"
+abbrev pub isZone : List ℕ → Bool
+isZone s = same s (text "Z") || same s (text "z") || isOffset 0x2B s || isOffset 0x2D s
+
+-- what is behind the digits that it begins with
+abbrev pub afterDigits : List ℕ → List ℕ
+afterDigits [] = []
+afterDigits (c ∷ s) = cond (isDigit c) (afterDigits s) (c ∷ s)
+
+-- the zone of what follows the seconds: behind the point and the digits of a fraction, where there is one
+abbrev pub zoneOf : List ℕ → List ℕ
+zoneOf s = cond (eqb (at s 0) 0x2E) (afterDigits (drop 1 s)) s
 
 -- "perhaps `.` and one digit or more, then" a zone
 abbrev pub isEnd : List ℕ → Bool
-isEnd s = isZone s || (eqb (at s 0) 0x2E && isDigit (at s 1) && isZoneAfterDigits (drop 2 s))
+isEnd s = (not (eqb (at s 0) 0x2E) || isDigit (at s 1)) && isZone (zoneOf s)
 
--- "`YYYY-MM-DD`, `T` or `t`, `hh:mm:ss`", then its end; "seconds 00 to 59"
+-- the minutes of a zone that is an offset with the sign c; 0 of another
+abbrev pub offset : ℕ → List ℕ → ℕ
+offset c z = cond (isOffset c z) (minutes z 1) 0
+
+-- "the time, moved by its offset to UTC", which is east (`+`) or west (`-`) of it: in minutes, from the start of the day before the written one on
+abbrev pub moved : ℕ → ℕ → ℕ → ℕ
+moved time east west = 1440 + time + west - east
+
+-- the day in UTC of a time on the day x, and its minute of that day
+unfoldable pub utcDay : Day → ℕ → ℕ → ℕ → Day
+utcDay x time east west =
+    cond (ltb (moved time east west) 1440) (dayBefore x) (cond (ltb (moved time east west) 2880) x (dayAfter x))
+
+abbrev pub utcMinute : ℕ → ℕ → ℕ → ℕ
+utcMinute time east west = moved time east west % 1440
+
+-- "30 June or 31 December, in any year"
+abbrev pub endsHalf : Day → Bool
+endsHalf x = (eqb (x .month) 6 && eqb (x .day) 30) || (eqb (x .month) 12 && eqb (x .day) 31)
+
+-- "23:59 on" such a day
+abbrev pub isLeapMinute : Day → ℕ → Bool
+isLeapMinute x n = eqb n (60 * 23 + 59) && endsHalf x
+
+-- "seconds 00 to 59" (01); "Second 60 is taken exactly when the time, moved by its offset to UTC, is" such a minute of its day (02, L2)
+abbrev pub hasSecond : ℕ → Day → ℕ → ℕ → ℕ → Bool
+hasSecond n x time east west = leb n 59 || (eqb n 60 && isLeapMinute (utcDay x time east west) (utcMinute time east west))
+
+-- "`YYYY-MM-DD`, `T` or `t`, `hh:mm:ss`", then its end
 abbrev pub isDate : List ℕ → Bool
 isDate s =
+    let z = zoneOf (drop 19 s) in
     isDay s && (eqb (at s 10) 0x54 || eqb (at s 10) 0x74)
-    && isClock s 11 && eqb (at s 16) 0x3A && twoDigits s 17 && leb (two s 17) 59 && isEnd (drop 19 s)
+    && isClock s 11 && eqb (at s 16) 0x3A && twoDigits s 17 && isEnd (drop 19 s)
+    && hasSecond (two s 17) (dayOf s) (minutes s 11) (offset 0x2B z) (offset 0x2D z)

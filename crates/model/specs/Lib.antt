@@ -1,6 +1,7 @@
 pub mod Text
 pub mod Value
 pub mod Definition
+pub mod Calendar
 pub mod Date
 pub mod Meeting
 pub mod Carried

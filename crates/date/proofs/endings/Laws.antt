@@ -1,18 +1,19 @@
--- The end of a date, by the first character of what is left of it.
+-- The end of a date, on plain values: what is told of it by what is told of its point, its digits, its sign and its time.
 use mathlib.Core.Path.{_≡_, refl, sym, ap, subst, _∙_}
 use mathlib.Core.Logic.{⊎-elim}
 use mathlib.Core.List.{List, [], _∷_}
-use mathlib.Core.Bool.{Bool, true, false, _&&_, _||_, and-true, and-false, or-false, false≢true}
-use Prim.Native.Nat.{ℕ, _≤_, _<_}
+use mathlib.Core.Bool.{Bool, true, false, not, _&&_, _||_, and-true, and-false, false≢true}
+use Prim.Native.Nat.{ℕ, _+_, _*_, _≤_, _<_}
 use native.Mathlib.Decide.{decLe}
 use native.Mathlib.Omega.{arith}
 use lib.ListN.{length, drop}
+use lib.Seq.{drop-drop}
 use lib.Dec.{leb, eqb}
-use borrow.Author.Tests.{le-leb, lt-leb, eq-eqb, ne-eqb, eqb-true}
+use borrow.Author.Tests.{le-leb, lt-leb, eq-eqb, ne-eqb, eqb-true, not-true, not-false}
 use Rattle.model.specs.Text.{same}
 use Rattle.model.specs.Value.{isDigit}
-use Rattle.model.specs.Date.{at, isClock, isZone, isZoneAfterDigits, isEnd}
-use Rattle.model.proofs.Basics.{by-test, clash, or-true, or-false as neither}
+use Rattle.model.specs.Date.{at, minutes, isClock, isOffset, isZone, afterDigits, zoneOf, isEnd, offset}
+use Rattle.model.proofs.Basics.{and-ways, by-test, clash, or-true, or-false as neither}
 use Rattle.chars.proofs.Facts.{in-text}
 use Rattle.chars.specs.Strings.{charsAt}
 use Rattle.date.specs.declared.walk.Number.{Number}
@@ -21,24 +22,18 @@ use Rattle.date.specs.declared.walk.Found.{Found}
 use Rattle.date.specs.declared.walk.Found.the-variants.{Behind, Nothing}
 use Rattle.date.specs.declared.fields.Time.{Time}
 use Rattle.date.specs.declared.fields.Time.the-variants.{At, NoTime}
-use Rattle.date.specs.Walk.{Stands, DigitTold, MarkTold, EitherTold}
-use Rattle.date.proofs.walk.Laws.{Digit, Mark, Either, digit-range}
+use Rattle.date.specs.declared.endings.TimeOffset.{TimeOffset}
+use Rattle.date.specs.declared.endings.TimeOffset.the-variants.{Minutes, NoOffset}
+use Rattle.date.specs.Walk.{Stands, DigitTold, MarkTold, EitherTold, ClockTold}
+use Rattle.date.specs.Endings.{OffsetTold, ZoneTold, EndTold}
+use Rattle.date.proofs.walk.Laws.{Digit, Mark, Either, at-drop, digit-range}
 use Rattle.date.proofs.fields.Laws.{Clock}
 
--- a text that begins otherwise
-same-other : (c : ℕ) (l : List ℕ) → eqb (at l 0) c ≡ false → same l (c ∷ []) ≡ false
-same-other c [] h = refl
-same-other c (x ∷ t) h = rw h
+-- ---- offsets
 
--- `Z` or `z` begins no offset
-z-plain : (x : ℕ) → eqb x 0x5A || eqb x 0x7A ≡ true → eqb x 0x2B || eqb x 0x2D ≡ false
-z-plain x h = ⊎-elim (λ t. rw (eqb-true x 0x5A t)) (λ t. rw (eqb-true x 0x7A t)) (or-true (eqb x 0x5A) (eqb x 0x7A) h)
-
--- behind it stands nothing
-zone-z : (l : List ℕ) → eqb (at l 0) 0x5A || eqb (at l 0) 0x7A ≡ true → isZone l ≡ leb (length l) 1
-zone-z [] h = absurd (false≢true h)
-zone-z (x ∷ []) h = rw (and-true, and-true, h)
-zone-z (x ∷ y ∷ t) h = rw (and-false, and-false, z-plain x h, and-false, lt-leb (length (x ∷ y ∷ t)) 1 (omega arith))
+-- whether the string ends at a place, whatever characters stand there
+abbrev pub Ends : List ℕ → ℕ → Bool → Type 0
+Ends s i r = (l : List ℕ) (k : ℕ) → Stands s i l k → r ≡ leb (length l) k
 
 eqb-leb : (n m : ℕ) → m ≤ n → eqb n m ≡ leb n m
 eqb-leb n m h = go (decLe n m)
@@ -54,78 +49,113 @@ clock-long l h =
     (λ t. in-text l 5 (omega (arith, digit-range (at l 5) t)))
     (λ f. clash (isClock l 1) h (rw (f, and-false, and-false)))
 
--- without `Z`: no sign, no time behind it, or an offset
-module _ (l : List ℕ) (n : eqb (at l 0) 0x5A || eqb (at l 0) 0x7A ≡ false) where
-  zone-signed : isZone l ≡ (eqb (length l) 6 && (eqb (at l 0) 0x2B || eqb (at l 0) 0x2D) && isClock l 1)
-  zone-signed = let m = neither _ _ n in rw (same-other 0x5A l (m .0), same-other 0x7A l (m .1))
+-- the sign a at i and, behind it, the time d
+module _ (s : List ℕ) (i c : ℕ) (a : Found) (t : Mark s i c a) where
+  pub no-sign : a ≡ Nothing → isOffset c (charsAt s i) ≡ false
+  no-sign q = rw (subst (Mark s i c) q t (charsAt s i) 0 refl)
 
-  zone-none : eqb (at l 0) 0x2B || eqb (at l 0) 0x2D ≡ false → isZone l ≡ false
-  zone-none h = zone-signed ∙ rw (h, and-false)
+  module _ (j : ℕ) (q : a ≡ Behind j) (d : Time) (w : Clock s j d) where
+    sign : MarkTold s (charsAt s i) 0 c (Behind j)
+    sign = subst (Mark s i c) q t (charsAt s i) 0 refl
 
-  zone-late : isClock l 1 ≡ false → isZone l ≡ false
-  zone-late h = zone-signed ∙ rw (h, and-false)
+    pub no-time : d ≡ NoTime → isOffset c (charsAt s i) ≡ false
+    no-time o = rw (sign .0, subst (Clock s j) o w (charsAt s i) 1 (sign .1))
 
-  zone-offset : eqb (at l 0) 0x2B || eqb (at l 0) 0x2D ≡ true → isClock l 1 ≡ true → isZone l ≡ leb (length l) 6
-  zone-offset h g = zone-signed ∙ rw (h, g, and-true, and-true) (eqb-leb (length l) 6 (clock-long l g))
+    module _ (m n : ℕ) (o : d ≡ At m n) (r : Bool) (e : Ends s n r) where
+      time : ClockTold s (charsAt s i) 1 (At m n)
+      time = subst (Clock s j) o w (charsAt s i) 1 (sign .1)
 
--- a point or a digit begins no zone
-no-zone : (l : List ℕ) → 0x2D < at l 0 → at l 0 < 0x5A → isZone l ≡ false
-no-zone l a b =
-    zone-none l
-    (rw (ne-eqb (at l 0) 0x5A (λ e. omega arith)) (ne-eqb (at l 0) 0x7A (λ e. omega arith)))
-    (rw (ne-eqb (at l 0) 0x2B (λ e. omega arith)) (ne-eqb (at l 0) 0x2D (λ e. omega arith)))
+      judged : isOffset c (charsAt s i) ≡ r
+      judged = rw (sign .0, time .0) (eqb-leb (length (charsAt s i)) 6 (clock-long (charsAt s i) (time .0)) ∙ sym (e (charsAt s i) 6 (time .2)))
 
--- digits before the zone
-digit-skip : (l : List ℕ) → isDigit (at l 0) ≡ true → isZoneAfterDigits l ≡ isZoneAfterDigits (drop 1 l)
+      pub more-behind : not r ≡ true → isOffset c (charsAt s i) ≡ false
+      more-behind f = judged ∙ not-true r f
+
+      pub offset-read : not r ≡ false → OffsetTold c (charsAt s i) (Read m n)
+      offset-read f = (judged ∙ not-false r f, time .1)
+
+-- ---- zones
+
+-- a letter is no sign
+letter-sign : (c x : ℕ) → c < 0x5A → eqb x 0x5A || eqb x 0x7A ≡ true → eqb x c ≡ false
+letter-sign c x k h =
+    ⊎-elim
+    (λ t. rw (eqb-true x 0x5A t) (ne-eqb 0x5A c (λ e. omega arith)))
+    (λ t. rw (eqb-true x 0x7A t) (ne-eqb 0x7A c (λ e. omega arith)))
+    (or-true (eqb x 0x5A) (eqb x 0x7A) h)
+
+-- behind it stands nothing
+zone-letter : (l : List ℕ) → eqb (at l 0) 0x5A || eqb (at l 0) 0x7A ≡ true → isZone l ≡ leb (length l) 1
+zone-letter [] h = absurd (false≢true h)
+zone-letter (x ∷ []) h = rw (and-true, and-true, h)
+zone-letter (x ∷ y ∷ t) h =
+    rw (and-false, and-false, letter-sign 0x2B x (omega arith) h, letter-sign 0x2D x (omega arith) h, lt-leb (length (x ∷ y ∷ t)) 1 (omega arith))
+
+-- what begins otherwise is no letter, and a zone where it is an offset
+same-other : (c : ℕ) (l : List ℕ) → eqb (at l 0) c ≡ false → same l (c ∷ []) ≡ false
+same-other c [] h = refl
+same-other c (x ∷ t) h = rw h
+
+zone-offset : (l : List ℕ) → eqb (at l 0) 0x5A || eqb (at l 0) 0x7A ≡ false → isZone l ≡ (isOffset 0x2B l || isOffset 0x2D l)
+zone-offset l n = let m = neither _ _ n in rw (same-other 0x5A l (m .0), same-other 0x7A l (m .1))
+
+-- an offset has one sign
+one-sign : (l : List ℕ) → isOffset 0x2B l ≡ true → isOffset 0x2D l ≡ false
+one-sign l h =
+    and-ways (eqb (at l 0) 0x2B && isClock l 1) (eqb (length l) 6) h (λ f _.
+    and-ways (eqb (at l 0) 0x2B) (isClock l 1) f (λ g _. rw (eqb-true (at l 0) 0x2B g)))
+
+-- the letter a at i; or an offset, of which b tells if its sign is `+`, and d if it is `-`
+module _ (s : List ℕ) (i : ℕ) (a : Found) (t : Either s i 0x5A 0x7A a) where
+  module _ (j : ℕ) (q : a ≡ Behind j) (r : Bool) (e : Ends s j r) where
+    letter : EitherTold s (charsAt s i) 0 0x5A 0x7A (Behind j)
+    letter = subst (Either s i 0x5A 0x7A) q t (charsAt s i) 0 refl
+
+    ended : isZone (charsAt s i) ≡ r
+    ended = zone-letter (charsAt s i) (letter .0) ∙ sym (e (charsAt s i) 1 (letter .1))
+
+    pub letter-ends : r ≡ true → ZoneTold (charsAt s i) (Minutes 0 0)
+    letter-ends f = (ended ∙ f, rw (letter-sign 0x2B _ (omega arith) (letter .0)), rw (letter-sign 0x2D _ (omega arith) (letter .0)))
+
+    pub letter-more : r ≡ false → isZone (charsAt s i) ≡ false
+    letter-more f = ended ∙ f
+
+  module _ (q : a ≡ Nothing) (b : Number) (u : OffsetTold 0x2B (charsAt s i) b) where
+    without : isZone (charsAt s i) ≡ (isOffset 0x2B (charsAt s i) || isOffset 0x2D (charsAt s i))
+    without = zone-offset (charsAt s i) (subst (Either s i 0x5A 0x7A) q t (charsAt s i) 0 refl)
+
+    pub east-read : (n j : ℕ) → b ≡ Read n j → ZoneTold (charsAt s i) (Minutes n 0)
+    east-read n j p =
+        let x = subst (OffsetTold 0x2B (charsAt s i)) p u in
+        (without ∙ rw (x .0), rw (x .0) (x .1), rw (one-sign (charsAt s i) (x .0)))
+
+    module _ (p : b ≡ Wrong) (d : Number) (w : OffsetTold 0x2D (charsAt s i) d) where
+      no-east : isOffset 0x2B (charsAt s i) ≡ false
+      no-east = subst (OffsetTold 0x2B (charsAt s i)) p u
+
+      pub no-offset : d ≡ Wrong → isZone (charsAt s i) ≡ false
+      no-offset o = without ∙ rw (no-east, subst (OffsetTold 0x2D (charsAt s i)) o w)
+
+      pub west-read : (n j : ℕ) → d ≡ Read n j → ZoneTold (charsAt s i) (Minutes 0 n)
+      west-read n j o =
+          let x = subst (OffsetTold 0x2D (charsAt s i)) o w in
+          (without ∙ rw (no-east, x .0), rw no-east, rw (x .0) (x .1))
+
+-- ---- fractions
+
+digit-skip : (l : List ℕ) → isDigit (at l 0) ≡ true → afterDigits l ≡ afterDigits (drop 1 l)
 digit-skip [] h = absurd (false≢true h)
-digit-skip (x ∷ t) h = let r = digit-range x h in rw (no-zone (x ∷ t) (omega arith) (omega arith), h)
+digit-skip (x ∷ t) h = rw h
 
 digit-less : (l : List ℕ) → isDigit (at l 0) ≡ true → length (drop 1 l) < length l
 digit-less [] h = absurd (false≢true h)
 digit-less (x ∷ t) h = omega arith
 
-digit-stop : (l : List ℕ) → isDigit (at l 0) ≡ false → isZoneAfterDigits l ≡ isZone l
+digit-stop : (l : List ℕ) → isDigit (at l 0) ≡ false → afterDigits l ≡ l
 digit-stop [] h = refl
-digit-stop (x ∷ t) h = rw (h, or-false)
+digit-stop (x ∷ t) h = rw h
 
--- with a point, and without
-end-point : (l : List ℕ) → eqb (at l 0) 0x2E ≡ true → isEnd l ≡ (isDigit (at l 1) && isZoneAfterDigits (drop 2 l))
-end-point l t = let p = eqb-true (at l 0) 0x2E t in rw (no-zone l (omega arith) (omega arith), t)
-
-end-plain : (l : List ℕ) → eqb (at l 0) 0x2E ≡ false → isEnd l ≡ isZone l
-end-plain l h = rw (h, or-false)
-
--- whether the string ends at a place, whatever characters stand there
-abbrev pub Ends : List ℕ → ℕ → Bool → Type 0
-Ends s i r = (l : List ℕ) (k : ℕ) → Stands s i l k → r ≡ leb (length l) k
-
--- the zone at i: the letter a; or the sign b and, behind it, the time d
-module _ (s : List ℕ) (i : ℕ) (a : Found) (t : Either s i 0x5A 0x7A a) where
-  pub zone-letter : (j : ℕ) → a ≡ Behind j → (r : Bool) → Ends s j r → r ≡ isZone (charsAt s i)
-  zone-letter j q r f =
-      let x = subst (Either s i 0x5A 0x7A) q t (charsAt s i) 0 refl in
-      f (charsAt s i) 1 (x .1) ∙ sym (zone-z (charsAt s i) (x .0))
-
-  module _ (q : a ≡ Nothing) (b : Found) (u : Either s i 0x2B 0x2D b) where
-    no-letter : eqb (at (charsAt s i) 0) 0x5A || eqb (at (charsAt s i) 0) 0x7A ≡ false
-    no-letter = subst (Either s i 0x5A 0x7A) q t (charsAt s i) 0 refl
-
-    pub no-sign : b ≡ Nothing → false ≡ isZone (charsAt s i)
-    no-sign p = sym (zone-none (charsAt s i) no-letter (subst (Either s i 0x2B 0x2D) p u (charsAt s i) 0 refl))
-
-    module _ (j : ℕ) (p : b ≡ Behind j) (d : Time) (w : Clock s j d) where
-      sign : EitherTold s (charsAt s i) 0 0x2B 0x2D (Behind j)
-      sign = subst (Either s i 0x2B 0x2D) p u (charsAt s i) 0 refl
-
-      pub no-time : d ≡ NoTime → false ≡ isZone (charsAt s i)
-      no-time o = sym (zone-late (charsAt s i) no-letter (subst (Clock s j) o w (charsAt s i) 1 (sign .1)))
-
-      pub zone-time : (h m n : ℕ) → d ≡ At h m n → (r : Bool) → Ends s n r → r ≡ isZone (charsAt s i)
-      zone-time h m n o r f =
-          let x = subst (Clock s j) o w (charsAt s i) 1 (sign .1) in
-          f (charsAt s i) 6 (x .3) ∙ sym (zone-offset (charsAt s i) no-letter (sign .0) (x .0))
-
--- the digit a at i: skipped, then the characters left are fewer; or none, then the zone decides
+-- the digit a at i: skipped, then the characters left are fewer; or none, then the zone begins there
 module _ (s : List ℕ) (i : ℕ) (a : Number) (t : Digit s i a) where
   module _ (v j : ℕ) (q : a ≡ Read v j) where
     digit : DigitTold s (charsAt s i) 0 (Read v j)
@@ -134,25 +164,35 @@ module _ (s : List ℕ) (i : ℕ) (a : Number) (t : Digit s i a) where
     pub fewer : length (charsAt s j) < length (charsAt s i)
     fewer = rw (digit .2) (digit-less (charsAt s i) (digit .0))
 
-    pub skipped : (r : Bool) → r ≡ isZoneAfterDigits (charsAt s i) → r ≡ isZoneAfterDigits (charsAt s j)
-    skipped r h = h ∙ digit-skip (charsAt s i) (digit .0) ∙ ap isZoneAfterDigits (sym (digit .2))
+    pub skipped : (z : List ℕ) → z ≡ afterDigits (charsAt s i) → z ≡ afterDigits (charsAt s j)
+    skipped z h = h ∙ digit-skip (charsAt s i) (digit .0) ∙ ap afterDigits (sym (digit .2))
 
-  pub digits-end : (x : Bool) → x ≡ isZoneAfterDigits (charsAt s i) → a ≡ Wrong → (r : Bool) → r ≡ isZone (charsAt s i) → r ≡ x
-  digits-end x h q r g = g ∙ sym (h ∙ digit-stop (charsAt s i) (subst (Digit s i) q t (charsAt s i) 0 refl))
+  pub digits-end : (z : List ℕ) → z ≡ afterDigits (charsAt s i) → a ≡ Wrong → (r : TimeOffset) → ZoneTold (charsAt s i) r → ZoneTold z r
+  digits-end z h q r g =
+      subst (λ (z : List ℕ). ZoneTold z r) (sym (h ∙ digit-stop (charsAt s i) (subst (Digit s i) q t (charsAt s i) 0 refl))) g
+
+-- the end of a date is told as its zone
+end-told : (l z : List ℕ) (r : TimeOffset) → zoneOf l ≡ z → isEnd l ≡ isZone z → ZoneTold z r → EndTold l r
+end-told l z (Minutes e w) p q h = (q ∙ h .0, rw p (h .1), rw p (h .2))
+end-told l z NoOffset p q h = q ∙ h
 
 -- the end at i: the point a and, behind it, the digit b
 module _ (s : List ℕ) (i : ℕ) (a : Found) (t : Mark s i 0x2E a) where
-  pub no-point : a ≡ Nothing → (r : Bool) → r ≡ isZone (charsAt s i) → r ≡ isEnd (charsAt s i)
-  no-point q r h = h ∙ sym (end-plain (charsAt s i) (subst (Mark s i 0x2E) q t (charsAt s i) 0 refl))
+  pub no-point : a ≡ Nothing → (r : TimeOffset) → ZoneTold (charsAt s i) r → EndTold (charsAt s i) r
+  no-point q r h =
+      let x : eqb (at (charsAt s i) 0) 0x2E ≡ false = subst (Mark s i 0x2E) q t (charsAt s i) 0 refl in
+      end-told (charsAt s i) (charsAt s i) r (rw x) (rw x) h
 
   module _ (j : ℕ) (q : a ≡ Behind j) (b : Number) (u : Digit s j b) where
     point : MarkTold s (charsAt s i) 0 0x2E (Behind j)
     point = subst (Mark s i 0x2E) q t (charsAt s i) 0 refl
 
-    pub no-fraction : b ≡ Wrong → false ≡ isEnd (charsAt s i)
-    no-fraction p = sym (end-point (charsAt s i) (point .0) ∙ rw (subst (Digit s j) p u (charsAt s i) 1 (point .1)))
+    pub no-fraction : b ≡ Wrong → isEnd (charsAt s i) ≡ false
+    no-fraction p = rw (point .0, subst (Digit s j) p u (charsAt s i) 1 (point .1))
 
-    pub fraction : (v n : ℕ) → b ≡ Read v n → (r : Bool) → r ≡ isZoneAfterDigits (charsAt s n) → r ≡ isEnd (charsAt s i)
+    pub fraction : (v n : ℕ) → b ≡ Read v n → (r : TimeOffset) → ZoneTold (afterDigits (charsAt s n)) r → EndTold (charsAt s i) r
     fraction v n p r h =
         let x = subst (Digit s j) p u (charsAt s i) 1 (point .1) in
-        h ∙ sym (end-point (charsAt s i) (point .0) ∙ rw (x .0) (ap isZoneAfterDigits (sym (x .2))))
+        let z : afterDigits (drop 1 (charsAt s i)) ≡ afterDigits (charsAt s n) =
+        digit-skip (drop 1 (charsAt s i)) (ap isDigit (at-drop (charsAt s i) 1) ∙ x .0) ∙ ap afterDigits (drop-drop 1 1 (charsAt s i) ∙ sym (x .2)) in
+        end-told (charsAt s i) (afterDigits (charsAt s n)) r (rw (point .0) z) (rw (point .0, x .0, z)) h

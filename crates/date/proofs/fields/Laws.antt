@@ -2,11 +2,12 @@
 use mathlib.Core.Path.{_≡_, refl, sym, subst, _∙_}
 use mathlib.Core.List.{List}
 use mathlib.Core.Bool.{Bool, true, false, not, _&&_}
-use Prim.Native.Nat.{ℕ, _+_, _≤_, _<_}
+use Prim.Native.Nat.{ℕ, _+_, _*_, _≤_, _<_}
 use native.Mathlib.Omega.{arith}
 use lib.Dec.{leb, eqb}
 use borrow.Author.Tests.{le-leb, lt-leb, not-true, not-false}
-use Rattle.model.specs.Date.{at, twoDigits, two, daysIn, isClock, isDay}
+use Rattle.model.specs.Calendar.{on, inCalendar}
+use Rattle.model.specs.Date.{at, twoDigits, two, isClock, isDay}
 use Rattle.chars.specs.Strings.{characters}
 use Rattle.date.specs.declared.walk.Number.{Number}
 use Rattle.date.specs.declared.walk.Number.the-variants.{Read, Wrong}
@@ -48,8 +49,9 @@ module _ (s : List ℕ) (i : ℕ) (a : Number) (t : Two s i a) where
       pub late-minute : h ≤ 23 → 59 < m → isClock l k ≡ false
       late-minute f g = rw (hour .0, minute .0, ← hour .1, ← minute .1, le-leb h 23 f, lt-leb m 59 g)
 
-      pub clock-read : h ≤ 23 → m ≤ 59 → ClockTold s l k (At h m n)
-      clock-read f g = (rw (hour .0, minute .0, ← hour .1, ← minute .1, le-leb h 23 f, le-leb m 59 g), hour .1, minute .1, minute .2)
+      pub clock-read : h ≤ 23 → m ≤ 59 → ClockTold s l k (At (60 * h + m) n)
+      clock-read f g =
+          (rw (hour .0, minute .0, ← hour .1, ← minute .1, le-leb h 23 f, le-leb m 59 g), rw (hour .1, minute .1), minute .2)
 
 -- the year a, the month b and the day d, of which the calendar tells r
 module _ (s : List ℕ) (a : Number) (t : Four s 0 a) where
@@ -70,7 +72,7 @@ module _ (s : List ℕ) (a : Number) (t : Four s 0 a) where
       pub no-day : d ≡ Wrong → isDay (characters s) ≡ false
       no-day o = rw (year .0, month .0, rw o at (w (characters s) 7 (month .2)))
 
-      module _ (n k : ℕ) (o : d ≡ Read n k) (r : Bool) (g : r ≡ leb 1 m && leb m 12 && leb 1 n && leb n (daysIn y m)) where
+      module _ (n k : ℕ) (o : d ≡ Read n k) (r : Bool) (g : r ≡ inCalendar (on y m n)) where
         day : MarkedTold s (characters s) 7 0x2D (Read n k)
         day = subst (Marked s j 0x2D) o w (characters s) 7 (month .2)
 
@@ -81,4 +83,4 @@ module _ (s : List ℕ) (a : Number) (t : Four s 0 a) where
         off-calendar f = judged ∙ not-true r f
 
         pub day-read : not r ≡ false → DayTold s (On y m n k)
-        day-read f = (judged ∙ not-false r f, year .1, month .1, day .1, day .2)
+        day-read f = (judged ∙ not-false r f, rw (year .1, month .1, day .1), day .2)

@@ -28,7 +28,7 @@ use Rattle.date.specs.declared.walk.Found.{Found}
 use Rattle.date.specs.declared.walk.Found.the-variants.{Behind, Nothing}
 use Rattle.date.specs.Walk.{Stands, DigitTold, TwoTold, FourTold, MarkTold, EitherTold, MarkedTold}
 
-at-drop : (l : List ℕ) (k : ℕ) → at (drop k l) 0 ≡ at l k
+pub at-drop : (l : List ℕ) (k : ℕ) → at (drop k l) 0 ≡ at l k
 at-drop l k = getD-drop k l 0 0 ∙ ap (at l) (add-zero k)
 
 module _ (s : List ℕ) (i : ℕ) (l : List ℕ) (k : ℕ) (e : Stands s i l k) where

@@ -5,7 +5,7 @@ use mathlib.Core.Bool.{Bool, true, false}
 use Prim.Native.Nat.{ℕ}
 use borrow.Author.Needs.{needs}
 use borrow.Author.Tests.{ne-eqb}
-use Rattle.model.specs.Date.{isLeap, daysIn}
+use Rattle.model.specs.Calendar.{isLeap, daysIn}
 use Rattle.date.proofs.calendar.days_in.Statement.{statement}
 use Rattle.date.proofs.calendar.days_in.Tie as tie
 

@@ -1,7 +1,7 @@
 -- `date::endings::digits` meets its contract. The loop's invariant: what stands at `at` ends as what stands at i does.
 use mathlib.Core.Path.{_≡_, refl}
 use lib.ListN.{length}
-use Rattle.model.specs.Date.{isZoneAfterDigits}
+use Rattle.model.specs.Date.{afterDigits}
 use Rattle.chars.specs.Strings.{charsAt}
 use borrow.Author.Needs.{needs}
 use Rattle.date.proofs.endings.Laws.{fewer, skipped, digits-end}
@@ -9,7 +9,7 @@ use Rattle.date.proofs.endings.digits.Statement.{statement}
 use Rattle.date.proofs.endings.digits.Tie as tie
 
 abbrev Inv : tie.InvT-loop
-Inv body at i₀ i = isZoneAfterDigits (charsAt body at) ≡ isZoneAfterDigits (charsAt body i)
+Inv body at i₀ i = afterDigits (charsAt body at) ≡ afterDigits (charsAt body i)
 
 abbrev μ : tie.MeasureT-loop
 μ body at i₀ i = length (charsAt body i)

@@ -1,6 +1,6 @@
--- `date::endings::zone` meets its contract: `Z`, no sign, no time behind it, and an offset.
+-- `date::endings::zone` meets its contract: a letter with nothing behind it, or with more; an offset with either sign, or none.
 use borrow.Author.Needs.{needs}
-use Rattle.date.proofs.endings.Laws.{zone-letter, no-sign, no-time, zone-time}
+use Rattle.date.proofs.endings.Laws.{letter-ends, letter-more, east-read, west-read, no-offset}
 use Rattle.date.proofs.endings.zone.Statement.{statement}
 use Rattle.date.proofs.endings.zone.Tie as tie
 
@@ -9,15 +9,15 @@ zone-spec = tie.close (tie.spec
     (λ c κs. search needs)  -- either-requires
     (λ c. search needs)  -- enum-known-next
     (λ c κs. search needs)  -- ends-requires
-    (λ c. search zone-letter)  -- returns
+    (λ c. search letter-ends)  -- returns
+    (λ c. search letter-more)  -- returns-2
     (λ c. search needs)  -- enum-told
-    (λ c κs. search needs)  -- either-requires-2
-    (λ c. search needs)  -- enum-known-offset
+    (λ c κs. search needs)  -- offset-requires
+    (λ c. search needs)  -- enum-known-east
+    (λ c. search east-read)  -- returns-3
     (λ c. search needs)  -- enum-told-2
-    (λ c. search no-sign)  -- returns-2
-    (λ c κs. search needs)  -- clock-requires
-    (λ c. search needs)  -- enum-known-next-2
+    (λ c κs. search needs)  -- offset-requires-2
+    (λ c. search needs)  -- enum-known-west
     (λ c. search needs)  -- enum-told-3
-    (λ c. search no-time)  -- returns-3
-    (λ c κs. search needs)  -- ends-requires-2
-    (λ c. search zone-time))  -- returns-4
+    (λ c. search no-offset)  -- returns-4
+    (λ c. search west-read))  -- returns-5

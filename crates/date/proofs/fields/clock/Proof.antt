@@ -16,4 +16,6 @@ clock-spec = tie.close (tie.spec
     (λ c l k e. search no-minute)  -- returns-2
     (λ c l k e. search late-hour)  -- returns-3
     (λ c l k e. search late-minute)  -- returns-4
+    (λ c. search needs)  -- mul-t10
+    (λ c. search needs)  -- add-t11
     (λ c l k e. search clock-read))  -- returns-5

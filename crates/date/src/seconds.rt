@@ -1,0 +1,59 @@
+// The seconds of a minute (01, "Dates"; 02, L2).
+ghost use mathlib.Core.Path.{_≡_};
+ghost use mathlib.Core.Bool.{true};
+ghost use Prim.Native.Nat.{ℕ};
+ghost use Rattle.model.specs.Calendar.{on, inCalendar, dayBefore};
+ghost use Rattle.model.specs.Date.{utcDay, utcMinute, endsHalf, isLeapMinute, hasSecond};
+ghost use Rattle.date.specs.Seconds.{Clocks};
+
+// 30 June or 31 December.
+fn ends_half(month: u32, day: u32) -> bool
+    ensures { λ r. ⌜ ((year : ℕ) → r ≡ endsHalf (on year month day)) ⌝ }
+{
+    match month {
+        6 => day == 30,
+        12 => day == 31,
+        _ => false,
+    }
+}
+
+// The day after: 1 July or 1 January.
+fn starts_half(month: u32, day: u32) -> bool
+    ensures { λ r. ⌜ ((year : ℕ) → inCalendar (on year month day) ≡ true → r ≡ endsHalf (dayBefore (on year month day))) ⌝ }
+{
+    if day != 1 {
+        return false;
+    }
+    match month {
+        1 | 7 => true,
+        _ => false,
+    }
+}
+
+// Whether a written minute is 23:59 on 30 June or 31 December in UTC. An offset has less than a day, so that this is 23:59 of the written day or of the one before.
+fn is_leap_minute(month: u32, day: u32, time: u32, east: u32, west: u32) -> bool
+    requires { ⌜ Clocks time east west ⌝ }
+    ensures { λ r. ⌜ ((year : ℕ) → inCalendar (on year month day) ≡ true → r ≡ isLeapMinute (utcDay (on year month day) time east west) (utcMinute time east west)) ⌝ }
+{
+    if time + west + 1 == east {
+        return starts_half(month, day);
+    }
+    if time + west == 1439 + east {
+        return ends_half(month, day);
+    }
+    false
+}
+
+// Whether a written minute has a second.
+pub fn has_second(second: u32, month: u32, day: u32, time: u32, east: u32, west: u32) -> bool
+    requires { ⌜ Clocks time east west ⌝ }
+    ensures { λ r. ⌜ ((year : ℕ) → inCalendar (on year month day) ≡ true → r ≡ hasSecond second (on year month day) time east west) ⌝ }
+{
+    if second <= 59 {
+        return true;
+    }
+    if second > 60 {
+        return false;
+    }
+    is_leap_minute(month, day, time, east, west)
+}
