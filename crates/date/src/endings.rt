@@ -7,7 +7,6 @@ use crate::walk::digit;
 use crate::walk::either;
 use crate::walk::ends;
 use crate::walk::mark;
-ghost use mathlib.Core.Path.{_≡_};
 ghost use Prim.Native.Nat.{_<_};
 ghost use Rattle.model.specs.Date.{afterDigits};
 ghost use Rattle.chars.specs.Strings.{charsAt};

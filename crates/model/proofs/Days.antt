@@ -1,12 +1,12 @@
 -- The days of the calendar: what holds of each, of the day before, and of the day after.
 use Prim.Native.Nat.{ℕ, _+_, _-_, _≤_, _<_}
-use mathlib.Core.Path.{_≡_, refl, sym, ap, subst, _∙_}
+use mathlib.Core.Path.{_≡_, refl, ap, subst, _∙_}
 use mathlib.Core.Logic.{⊎-elim}
-use mathlib.Core.Bool.{Bool, true, false, cond, _&&_, _||_, and-false, or-false}
+use mathlib.Core.Bool.{true, _&&_, _||_}
 use native.Mathlib.Omega.{arith}
 use lib.Dec.{leb, ltb, eqb}
 use borrow.Author.Tests.{eqb-true, eqb-false, ne-eqb, leb-true, ltb-true, ltb-false, lt-ltb, le-ltb}
-use Rattle.model.specs.Calendar.{Day, on, daysIn, inCalendar, dayBefore, dayAfter}
+use Rattle.model.specs.Calendar.{on, daysIn, inCalendar, dayBefore, dayAfter}
 use Rattle.model.specs.Date.{endsHalf}
 use Rattle.model.proofs.Basics.{and-ways, by-test, or-true}
 

@@ -1,16 +1,16 @@
 -- Second 60 (02, L2), by the day and the time that are written: which have it, and which seconds a date has at all.
-use Prim.Native.Nat.{ℕ, _+_, _-_, _*_, _%_, _≤_, _<_}
-use mathlib.Core.Path.{_≡_, refl, sym, ap, subst, _∙_}
+use Prim.Native.Nat.{ℕ, _+_, _≤_, _<_}
+use mathlib.Core.Path.{_≡_, refl, sym, _∙_}
 use mathlib.Core.Logic.{_⊎_, inl, inr, ⊎-elim, _↔_}
-use mathlib.Core.Bool.{Bool, true, false, cond, _&&_, _||_, and-false}
+use mathlib.Core.Bool.{Bool, true, false, _&&_}
 use native.Mathlib.Omega.{arith}
 use mathlib.Core.List.{List}
 use lib.Dec.{leb, ltb, eqb}
 use lib.ListN.{length}
-use borrow.Author.Tests.{eqb-true, eqb-false, ne-eqb, leb-true, le-leb, ltb-true, ltb-false}
+use borrow.Author.Tests.{eqb-true, eqb-false, ne-eqb, leb-true, le-leb, lt-leb, ltb-true, ltb-false}
 use Rattle.model.specs.Calendar.{Day, dayBefore}
 use Rattle.model.specs.Date.{at, twoDigits, two, isClock, minutes, isOffset, offset, moved, utcDay, utcMinute, endsHalf, isLeapMinute, hasSecond}
-use Rattle.model.proofs.Basics.{and-ways, both, by-test, or-true, clash}
+use Rattle.model.proofs.Basics.{and-ways, both, by-test, clash}
 
 -- "Hours 00 to 23, minutes 00 to 59": a time and an offset have less than a day
 pub clock-less : (s : List ℕ) (i : ℕ) → isClock s i ≡ true → minutes s i < 1440
@@ -47,7 +47,7 @@ module _ (x : Day) (time east west : ℕ) where
       (λ t. f (omega (arith, e, ltb-true (time + west) east t)))
       (λ t. g (omega (arith, e, ltb-false (time + west) east t)))))
 
-  -- L2 with nothing moved: the written day is 30 June or 31 December and the time 23:59 with the offset added, or it is the day after and the time that, less a day
+  -- so, of what is written: 23:59 with the offset added, on 30 June or 31 December, or past midnight on the day after
   pub leap-minute : time < 1440 → east < 1440 → west < 1440
       → (leaps ≡ true) ↔ (((endsHalf x ≡ true) × (time + west ≡ 1439 + east)) ⊎ ((endsHalf (dayBefore x) ≡ true) × (time + west + 1 ≡ east)))
   leap-minute a b c = (
@@ -59,12 +59,13 @@ module _ (x : Day) (time east west : ℕ) where
     λ w. ⊎-elim (λ u. on-day (u .1) ∙ u .0) (λ u. on-eve (u .1) ∙ u .0) w,
   )
 
-  -- seconds 00 to 59 are taken whatever the minute, and none above 60
-  pub seconds-59 : (n : ℕ) → n ≤ 59 → hasSecond n x time east west ≡ true
-  seconds-59 n h = rw (le-leb n 59 h) refl
+  -- ---- 00 to 59 always, 60 in such a minute, more never
+  module _ (n : ℕ) where
+    pub seconds-59 : n ≤ 59 → hasSecond n x time east west ≡ true
+    seconds-59 h = rw (le-leb n 59 h)
 
-  pub seconds-60 : (n : ℕ) → hasSecond n x time east west ≡ true → n ≤ 60
-  seconds-60 n h = ⊎-elim
-      (λ f. omega (arith, leb-true n 59 f))
-      (λ f. and-ways (eqb n 60) leaps f (λ e _. omega (arith, eqb-true n 60 e)))
-      (or-true (leb n 59) (eqb n 60 && leaps) h)
+    pub second-60 : n ≡ 60 → hasSecond n x time east west ≡ leaps
+    second-60 e = rw e
+
+    pub seconds-61 : 60 < n → hasSecond n x time east west ≡ false
+    seconds-61 h = rw (lt-leb n 59 (omega arith), ne-eqb n 60 (λ e. omega arith))

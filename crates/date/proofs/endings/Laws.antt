@@ -3,7 +3,7 @@ use mathlib.Core.Path.{_≡_, refl, sym, ap, subst, _∙_}
 use mathlib.Core.Logic.{⊎-elim}
 use mathlib.Core.List.{List, [], _∷_}
 use mathlib.Core.Bool.{Bool, true, false, not, _&&_, _||_, and-true, and-false, false≢true}
-use Prim.Native.Nat.{ℕ, _+_, _*_, _≤_, _<_}
+use Prim.Native.Nat.{ℕ, _≤_, _<_}
 use native.Mathlib.Decide.{decLe}
 use native.Mathlib.Omega.{arith}
 use lib.ListN.{length, drop}
@@ -12,7 +12,7 @@ use lib.Dec.{leb, eqb}
 use borrow.Author.Tests.{le-leb, lt-leb, eq-eqb, ne-eqb, eqb-true, not-true, not-false}
 use Rattle.model.specs.Text.{same}
 use Rattle.model.specs.Value.{isDigit}
-use Rattle.model.specs.Date.{at, minutes, isClock, isOffset, isZone, afterDigits, zoneOf, isEnd, offset}
+use Rattle.model.specs.Date.{at, isClock, isOffset, isZone, afterDigits, zoneOf, isEnd}
 use Rattle.model.proofs.Basics.{and-ways, by-test, clash, or-true, or-false as neither}
 use Rattle.chars.proofs.Facts.{in-text}
 use Rattle.chars.specs.Strings.{charsAt}

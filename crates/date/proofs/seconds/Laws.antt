@@ -1,15 +1,15 @@
 -- The seconds of a written minute, on plain values: what is told of them by the tests of the day and of the time.
-use mathlib.Core.Path.{_≡_, refl, sym, _∙_}
+use mathlib.Core.Path.{_≡_, sym, _∙_}
 use mathlib.Core.Logic.{_⊎_, inl, inr}
 use mathlib.Core.Bool.{Bool, true, false, or-false}
 use Prim.Native.Nat.{ℕ, _+_, _≤_, _<_}
 use native.Mathlib.Omega.{arith}
 use lib.Dec.{eqb}
-use borrow.Author.Tests.{ne-eqb, eq-eqb, le-leb, lt-leb}
+use borrow.Author.Tests.{ne-eqb}
 use Rattle.model.specs.Calendar.{on, inCalendar, dayBefore}
 use Rattle.model.specs.Date.{endsHalf, hasSecond}
 use Rattle.model.proofs.Days.{eve}
-use Rattle.model.proofs.LeapSeconds.{leaps, on-eve, on-day, off-minute}
+use Rattle.model.proofs.LeapSeconds.{leaps, on-eve, on-day, off-minute, seconds-59, second-60, seconds-61}
 use Rattle.date.specs.Seconds.{Clocks}
 
 -- ---- 30 June and 31 December, and the days after
@@ -55,10 +55,10 @@ module _ (m d time east west : ℕ) where
 
   module _ (n y : ℕ) (h : inCalendar (on y m d) ≡ true) where
     pub to-59 : n ≤ 59 → true ≡ hasSecond n (on y m d) time east west
-    to-59 a = rw (le-leb n 59 a)
+    to-59 a = sym (seconds-59 (on y m d) time east west n a)
 
     pub from-61 : 60 < n → false ≡ hasSecond n (on y m d) time east west
-    from-61 a = rw (lt-leb n 59 (omega arith), ne-eqb n 60 (λ e. omega arith))
+    from-61 a = sym (seconds-61 (on y m d) time east west n a)
 
     pub at-60 : 59 < n → n ≤ 60 → (r : Bool) → Leaps r → r ≡ hasSecond n (on y m d) time east west
-    at-60 a b r f = rw (lt-leb n 59 a, eq-eqb n 60 (omega arith)) (f y h)
+    at-60 a b r f = f y h ∙ sym (second-60 (on y m d) time east west n (omega arith))
