@@ -10,6 +10,7 @@ same pairs. Values and definitions are those of model_meeting.
 import itertools
 import random
 import sys
+from datetime import datetime, timedelta, timezone
 
 import generate
 from model import DOCUMENT_DEPTH, DOCUMENT_LIMIT, SCHEMA_DEPTH, SCHEMA_LIMIT
@@ -59,6 +60,11 @@ OFFSETS = ["Z", "z", "+00:00", "-00:00", "+23:59", "-23:59", "+24:00", "-24:00",
            "+-1:00"]
 SEPARATORS = ["T", "t", " ", "_", "", "TT", "\u0422", "T "]
 DATE = "2024-02-29T23:59:59.5+02:00"
+LEAP_DATE = "1990-12-31T15:59:60.5-08:00"
+# The minutes of UTC that may have a second 60, in any year.
+LEAP_MINUTES = [datetime(2024, 6, 30, 23, 59, tzinfo=timezone.utc), datetime(2024, 12, 31, 23, 59, tzinfo=timezone.utc)]
+LEAP_OFFSETS = ["Z", "z"] + [sign + size for sign in "+-" for size in [
+    "00:00", "00:01", "00:20", "00:59", "01:00", "05:30", "08:00", "12:00", "12:45", "14:00", "23:00", "23:59"]]
 DATE_CHARACTERS = "0123456789-+:.,TtZz /\0\n\x7f\u0660\uff10\u00e9\U0001f600"
 
 # Types that take more, and types that take less.
@@ -212,7 +218,11 @@ class PairWriter(generate.Writer):
         return string(self.good_date())
 
     def good_date(self):
-        """A date near the boundaries."""
+        """A date near the boundaries, at times with a leap second."""
+        if self.chance.random() < 0.2:
+            date = second_60(self.chance.choice(YEARS), self.chance.choice(LEAP_MINUTES),
+                             self.chance.choice(LEAP_OFFSETS), self.chance.choice(FRACTIONS[:5]))
+            return date.replace("T", self.chance.choice("Tt"))
         day = self.chance.choice(["01-31", "02-28", "04-30", "06-30", "09-30", "11-30", "12-31"])
         year = self.chance.choice(YEARS)
         if year in ("0000", "0004", "0400", "1600", "2000", "2024", "9996"):
@@ -431,7 +441,28 @@ def date_strings():
         yield "2024-04-30T23:59:59" + fraction + offset
     for separator, date in itertools.product(SEPARATORS, ["2024-04-30", "2024-4-30", "24-04-30"]):
         yield date + separator + "08:00:00Z"
+    yield from leap_second_strings()
     yield from damaged_dates(DATE)
+    yield from damaged_dates(LEAP_DATE)
+
+
+def leap_second_strings():
+    """Second 60 at the end of June and December in UTC, a minute, an hour and a day beside it,
+    with the offset turned round, and at the end of every month."""
+    turned = str.maketrans("+-", "-+")
+    for offset in LEAP_OFFSETS:
+        for minute, year in itertools.product(LEAP_MINUTES, ["0000", "2023", "9999"]):
+            for beside in [-1440, -60, -1, 0, 1, 60, 1440]:
+                yield second_60(year, minute + timedelta(minutes=beside), offset)
+            yield second_60(year, minute, offset)[:-len(offset)] + offset.translate(turned)
+        for month in range(1, 13):
+            yield second_60("2024", datetime(2024, month, 1, tzinfo=timezone.utc) - timedelta(minutes=1), offset)
+
+
+def second_60(year, utc, offset, fraction=""):
+    """Second 60 of a minute of UTC as it is written under an offset, in any year."""
+    written = utc.astimezone(datetime.strptime(offset.upper(), "%z").tzinfo)
+    return year + written.strftime("-%m-%dT%H:%M:60") + fraction + offset
 
 
 def damaged_dates(date):

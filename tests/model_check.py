@@ -4,6 +4,7 @@ check() gives the answer (code, text, place, other) and fills both tables.
 """
 
 import re
+from datetime import datetime, timedelta, timezone
 
 import model
 
@@ -210,9 +211,21 @@ def is_date(characters):
         return False
     year, month, day, hour, minute, second = map(int, found.groups()[:6])
     offset_hour, offset_minute = map(int, found.groups(default="00")[8:])
-    return (1 <= month <= 12 and 1 <= day <= days_in_month(year, month)
-            and hour <= 23 and minute <= 59 and second <= 59
-            and offset_hour <= 23 and offset_minute <= 59)
+    if not (1 <= month <= 12 and 1 <= day <= days_in_month(year, month)
+            and hour <= 23 and minute <= 59 and second <= 60
+            and offset_hour <= 23 and offset_minute <= 59):
+        return False
+    offset = timedelta(hours=offset_hour, minutes=offset_minute)
+    zone = timezone(-offset if found[8][0] == "-" else offset)
+    return second <= 59 or has_leap_second(year, month, day, hour, minute, zone)
+
+
+def has_leap_second(year, month, day, hour, minute, zone):
+    """Whether the minute is in UTC 23:59 on 30 June or 31 December. Month and day repeat
+    after 400 years, so the year is one that datetime has, with those beside it."""
+    written = datetime(2000 + year % 400, month, day, hour, minute, tzinfo=zone)
+    utc = written.astimezone(timezone.utc)
+    return (utc.month, utc.day, utc.hour, utc.minute) in [(6, 30, 23, 59), (12, 31, 23, 59)]
 
 
 def days_in_month(year, month):

@@ -256,6 +256,9 @@ static const struct text
         WORDS(8,0,59,2,5, 9,1,7,0,1, 6,8,30,0,1, 9,31,35,0,1, 6,36,58,0,1)},
     season = {"{\"Object\":{\"required\":{\"from\":\"DateTime\",\"to\":\"DateTime\"}}}",
         WORDS(8,0,59,1,9, 9,1,9,0,1, 8,10,58,1,7, 9,11,21,0,1, 8,22,57,2,5, 9,23,29,0,1, 6,30,40,0,1, 9,41,45,0,1, 6,46,56,0,1)},
+    leap_second = {"\"1990-12-31T15:59:60-08:00\"", WORDS(6,0,27,0,1)},
+    no_leap_second = {"\"2024-04-30T23:59:60Z\"", WORDS(6,0,22,0,1)},
+    date = {"\"DateTime\"", WORDS(6,0,10,0,1)},
     optional_a = {"{\"Object\":{\"optional\":{\"a\":\"String\"}}}",
         WORDS(8,0,38,1,7, 9,1,9,0,1, 8,10,37,1,5, 9,11,21,0,1, 8,22,36,1,3, 9,23,26,0,1, 6,27,35,0,1)},
     both_a = {"{\"Object\":{\"required\":{\"a\":\"JSON\"},\"optional\":{\"\\u0061\":\"JSON\"}}}",
@@ -280,6 +283,8 @@ static const struct text
 static const struct pair pairs[] = {
     {teleport_check, {&april_31, &season}, {22, 1, 8, 30}},
     {teleport_check, {&april_30, &season}, {0, 0, 0, 0}},
+    {teleport_check, {&leap_second, &date}, {0, 0, 0, 0}},
+    {teleport_check, {&no_leap_second, &date}, {22, 1, 0, 0}},
     {teleport_check, {&empty, &season}, {21, 1, 0, 23}},
     {teleport_check, {&fraction, &integer}, {20, 1, 0, 0}},
     {teleport_check, {&comma, &json}, {3, 1, 3, 0}},

@@ -1,5 +1,8 @@
 //! A model of the rules for dates.
 
+/// Minutes of a day.
+pub const DAY: i32 = 24 * 60;
+
 /// Takes bytes from the left of a string.
 struct Cursor<'a> {
     rest: &'a [u8],
@@ -12,16 +15,16 @@ impl Cursor<'_> {
         allowed.contains(&first).then_some(first)
     }
 
-    fn number(&mut self, digits: usize) -> Option<u32> {
+    fn number(&mut self, digits: usize) -> Option<i32> {
         let mut number = 0;
         for _ in 0..digits {
-            number = number * 10 + u32::from(self.one_of(b"0123456789")? - b'0');
+            number = number * 10 + i32::from(self.one_of(b"0123456789")? - b'0');
         }
         Some(number)
     }
 
     /// A number of two digits that is at most so much.
-    fn at_most(&mut self, most: u32) -> Option<u32> {
+    fn at_most(&mut self, most: i32) -> Option<i32> {
         self.number(2).filter(|number| *number <= most)
     }
 }
@@ -32,24 +35,30 @@ pub fn is_date(characters: &str) -> bool {
 }
 
 fn whole_date(cursor: &mut Cursor) -> Option<()> {
-    calendar_day(cursor)?;
+    let (year, month, day) = calendar_day(cursor)?;
     cursor.one_of(b"Tt")?;
-    cursor.at_most(23)?;
+    let time = minutes(cursor)?;
     cursor.one_of(b":")?;
-    cursor.at_most(59)?;
-    cursor.one_of(b":")?;
-    cursor.at_most(59)?;
+    let second = cursor.at_most(60)?;
     fraction(cursor)?;
-    offset(cursor)
+    let utc = minutes_before(year, month) + (day - 1) * DAY + time - offset(cursor)?;
+    (second < 60 || has_leap_second(year, utc)).then_some(())
 }
 
-fn calendar_day(cursor: &mut Cursor) -> Option<()> {
+fn calendar_day(cursor: &mut Cursor) -> Option<(i32, i32, i32)> {
     let year = cursor.number(4)?;
     cursor.one_of(b"-")?;
     let month = cursor.number(2)?;
     cursor.one_of(b"-")?;
     let day = cursor.number(2)?;
-    (1 <= day && day <= days_in_month(year, month)).then_some(())
+    (1 <= day && day <= days_in_month(year, month)).then_some((year, month, day))
+}
+
+/// Hours and minutes, as minutes.
+fn minutes(cursor: &mut Cursor) -> Option<i32> {
+    let hours = cursor.at_most(23)?;
+    cursor.one_of(b":")?;
+    Some(hours * 60 + cursor.at_most(59)?)
 }
 
 /// Perhaps a dot and one digit or more.
@@ -65,18 +74,16 @@ fn fraction(cursor: &mut Cursor) -> Option<()> {
     Some(())
 }
 
-fn offset(cursor: &mut Cursor) -> Option<()> {
-    if matches!(cursor.one_of(b"Zz+-")?, b'Z' | b'z') {
-        return Some(());
+fn offset(cursor: &mut Cursor) -> Option<i32> {
+    match cursor.one_of(b"Zz+-")? {
+        b'+' => minutes(cursor),
+        b'-' => minutes(cursor).map(|offset| -offset),
+        _ => Some(0),
     }
-    cursor.at_most(23)?;
-    cursor.one_of(b":")?;
-    cursor.at_most(59)?;
-    Some(())
 }
 
 /// No days in a month that is none.
-fn days_in_month(year: u32, month: u32) -> u32 {
+fn days_in_month(year: i32, month: i32) -> i32 {
     let leap = year % 4 == 0 && year % 100 != 0 || year % 400 == 0;
     match month {
         2 if leap => 29,
@@ -85,4 +92,15 @@ fn days_in_month(year: u32, month: u32) -> u32 {
         1..=12 => 31,
         _ => 0,
     }
+}
+
+/// From the beginning of the year to that of a month; the thirteenth is the next January.
+fn minutes_before(year: i32, month: i32) -> i32 {
+    (1..month).map(|earlier| days_in_month(year, earlier) * DAY).sum()
+}
+
+/// Whether a minute of UTC, counted from the beginning of the written year, is the last before a January or a July. It may
+/// lie in the year before.
+fn has_leap_second(year: i32, utc: i32) -> bool {
+    [1, 7, 13].iter().any(|month| utc + 1 == minutes_before(year, *month))
 }

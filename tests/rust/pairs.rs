@@ -1,5 +1,6 @@
 //! Random schemas, documents for them, and pairs of schemas that are variations of one another.
 
+use crate::dates::DAY;
 use crate::generate::{
     characters, damaged, deep_text, long_text, member, name_twice, names, pieces_of_string, short_text, string, value,
     write, Chance, Value, LITERALS, NAMES, OTHER_NUMBERS, TYPE_NAMES, WHOLE_NUMBERS,
@@ -368,24 +369,54 @@ fn damage_string(text: &mut String, chance: &mut Chance) {
     *text = all.into_iter().collect();
 }
 
-/// A date, at times with a number just out of range.
+/// A date, or nearly one.
 fn date(chance: &mut Chance) -> String {
     let year = chance.pick(&[0, 4, 100, 400, 1900, 2000, 2023, 2024, 2100, 9999]);
+    let mark = chance.pick(&["T", "t"]);
+    let fraction = if chance.one_in(40) { "." } else { chance.pick(&["", "", ".0", ".5", ".123456789"]) };
+    let (day, time, offset) = if chance.one_in(3) { leap_second(chance) } else { any_second(chance) };
+    format!("{year:04}-{day}{mark}{time}{fraction}{offset}")
+}
+
+/// Day, time and offset, at times with a number just out of range.
+fn any_second(chance: &mut Chance) -> (String, String, String) {
     let (month, day) = match chance.below(8) {
         0 => (chance.pick(&[0, 13, 20, 12]), chance.between(1, 28)),
         1 => (chance.between(1, 12), chance.pick(&[0, 28, 29, 30, 31, 32])),
         2 | 3 => (2, chance.pick(&[28, 29, 29, 30])),
         _ => (chance.between(1, 12), chance.between(1, 28)),
     };
-    let hour = edge(23, chance);
-    let (minute, second) = (edge(59, chance), edge(59, chance));
-    let fraction = if chance.one_in(40) { "." } else { chance.pick(&["", "", ".0", ".5", ".123456789"]) };
+    let (hour, minute, second) = (edge(23, chance), edge(59, chance), edge(59, chance));
     let offset = match chance.below(3) {
         0 => chance.pick(&["Z", "z"]).to_string(),
         _ => format!("{}{:02}:{:02}", chance.pick(&["+", "-"]), edge(23, chance), edge(59, chance)),
     };
-    let mark = chance.pick(&["T", "t"]);
-    format!("{year:04}-{month:02}-{day:02}{mark}{hour:02}:{minute:02}:{second:02}{fraction}{offset}")
+    (format!("{month:02}-{day:02}"), format!("{hour:02}:{minute:02}:{second:02}"), offset)
+}
+
+/// The days around the end of June, of December, and of a month that never has a leap second.
+const ENDS: [[&str; 4]; 3] =
+    [["06-29", "06-30", "07-01", "07-02"], ["12-30", "12-31", "01-01", "01-02"], ["09-29", "09-30", "10-01", "10-02"]];
+
+/// Second 60 under any offset, half of them in the last minute of the month in UTC; day, time and offset.
+fn leap_second(chance: &mut Chance) -> (String, String, String) {
+    let days = ENDS[chance.pick(&[0, 0, 1, 1, 2])];
+    let beside = if chance.one_in(2) { 0 } else { chance.pick(&[-DAY, -60, -1, 1, 60, DAY]) };
+    let size =
+        if chance.one_in(2) { chance.pick(&[0, 1, 330, 480, 765, 1439]) } else { chance.below(DAY as usize) as i32 };
+    let sign = chance.pick(&[-1, 1]);
+    // In minutes, from the beginning of the first of the days.
+    let written = 2 * DAY - 1 + beside + sign * size;
+    let day = days[(written / DAY) as usize].to_string();
+    let second = chance.pick(&[60, 60, 60, 60, 60, 60, 59, 61]);
+    let time = format!("{:02}:{:02}:{second}", written / 60 % 24, written % 60);
+    // Seldom the offset is turned round.
+    let shown = if chance.one_in(8) { -sign } else { sign };
+    let offset = match size {
+        0 if chance.one_in(2) => chance.pick(&["Z", "z"]).to_string(),
+        _ => format!("{}{:02}:{:02}", if shown < 0 { "-" } else { "+" }, size / 60, size % 60),
+    };
+    (day, time, offset)
 }
 
 /// A number up to the most, seldom one more.
