@@ -104,7 +104,11 @@ enum teleport_kind {
 /* Is the text well-formed JSON? Writes its rows to table. */
 void teleport_read(const uint8_t *text, size_t text_len, uint32_t *table, size_t table_len, uint32_t answer[4]);
 
-/* Does the document (text 1, table1) meet the schema (text 2, table2)? The schema is judged first. */
+/*
+ * Does the document (text 1, table1) meet the schema (text 2, table2)? The schema is judged first. A string is a date by
+ * RFC 3339, years 0000 to 9999; second 60 is taken exactly when the time, moved by its offset to UTC, is 23:59 on 30 June or
+ * 31 December, in any year.
+ */
 void teleport_check(const uint8_t *document, size_t document_len, const uint8_t *schema, size_t schema_len,
                     uint32_t *table1, size_t table1_len, uint32_t *table2, size_t table2_len, uint32_t answer[4]);
 
