@@ -1,15 +1,17 @@
 -- A date, on plain values: its day d, its letter f, its time g, its second a and its end b, one behind the other.
-use mathlib.Core.Path.{_≡_, sym, subst}
+use mathlib.Core.Path.{_≡_, sym, ap, subst, _∙_}
 use mathlib.Core.Bool.{Bool, true, false, _&&_}
 use mathlib.Core.List.{List}
-use Prim.Native.Nat.{ℕ}
+use Prim.Native.Nat.{ℕ, _+_, _<_}
 use native.Mathlib.Omega.{arith}
+use mir.Syntax.{w32}
+use mir.Val.{Fits}
 use lib.ListN.{drop}
 use lib.Dec.{eqb}
 use Rattle.model.specs.Calendar.{Day, on, inCalendar}
-use Rattle.model.specs.Date.{at, twoDigits, dayOf, isDay, zoneOf, hasSecond, isDate}
-use Rattle.model.proofs.Basics.{and-ways}
-use Rattle.model.proofs.LeapSeconds.{clock-less, offset-less}
+use Rattle.model.specs.Date.{at, twoDigits, dayOf, isDay, isEnd, zoneOf, behindUtc, hasSecond, isDate}
+use Rattle.model.proofs.Basics.{and-ways, both, by-test}
+use Rattle.model.proofs.LeapSeconds.{clock-less, behind-range}
 use Rattle.chars.specs.Strings.{charsAt, characters}
 use Rattle.date.specs.declared.walk.Number.{Number}
 use Rattle.date.specs.declared.walk.Number.the-variants.{Read, Wrong}
@@ -19,10 +21,7 @@ use Rattle.date.specs.declared.fields.Date.{Date}
 use Rattle.date.specs.declared.fields.Date.the-variants.{On, NoDate}
 use Rattle.date.specs.declared.fields.Time.{Time}
 use Rattle.date.specs.declared.fields.Time.the-variants.{At, NoTime}
-use Rattle.date.specs.declared.endings.TimeOffset.{TimeOffset}
-use Rattle.date.specs.declared.endings.TimeOffset.the-variants.{Minutes, NoOffset}
-use Rattle.date.specs.Endings.{EndTold}
-use Rattle.date.specs.Seconds.{Clocks}
+use Rattle.date.specs.Endings.{endRead}
 use Rattle.date.specs.Walk.{DayTold, EitherTold, ClockTold, MarkedTold}
 use Rattle.date.proofs.walk.Laws.{Either, Marked}
 use Rattle.date.proofs.fields.Laws.{Clock}
@@ -32,6 +31,16 @@ is-day : (l : List ℕ) → isDay l ≡ true → inCalendar (dayOf l) ≡ true
 is-day l h =
     let written = twoDigits l 0 && twoDigits l 2 && eqb (at l 4) 0x2D && twoDigits l 5 && eqb (at l 7) 0x2D && twoDigits l 8 in
     and-ways written (inCalendar (dayOf l)) h (λ _ f. f)
+
+-- the number that is read from the end
+end-is : (l : List ℕ) → (endRead l ≡ 0 → ⊥) → (isEnd l ≡ true) × (endRead l ≡ behindUtc (zoneOf l))
+end-is l h = by-test (isEnd l) (λ t. (t, rw t)) (λ f. absurd (h (rw f)))
+
+end-not : (l : List ℕ) → endRead l ≡ 0 → isEnd l ≡ false
+end-not l h = by-test (isEnd l) (λ t. absurd (let e : endRead l ≡ behindUtc (zoneOf l) = rw t in omega (arith, behind-range (zoneOf l)))) (λ f. f)
+
+end-small : (l : List ℕ) → endRead l < 2880
+end-small l = both (λ (n : ℕ). n < 2880) (isEnd l) (λ _. behind-range (zoneOf l) .1) (λ _. omega arith)
 
 module _ (s : List ℕ) (d : Date) (t : DayTold s d) where
   pub no-day : d ≡ NoDate → false ≡ isDate (characters s)
@@ -61,27 +70,24 @@ module _ (s : List ℕ) (d : Date) (t : DayTold s d) where
         pub no-second : a ≡ Wrong → false ≡ isDate (characters s)
         no-second e = rw (day .0, letter .0, time .0, rw e at (v (characters s) 16 (time .2)))
 
-        module _ (x z : ℕ) (e : a ≡ Read x z) (b : TimeOffset) (c : EndTold (charsAt s z) b) where
+        module _ (x z : ℕ) (e : a ≡ Read x z) (b : ℕ) (c : b ≡ endRead (charsAt s z)) where
           second : MarkedTold s (characters s) 16 0x3A (Read x z)
           second = subst (Marked s k 0x3A) e v (characters s) 16 (time .2)
 
-          end : EndTold (drop 19 (characters s)) b
-          end = subst (λ (l : List ℕ). EndTold l b) (second .2) c
+          end : b ≡ endRead (drop 19 (characters s))
+          end = c ∙ ap endRead (second .2)
 
-          pub no-end : b ≡ NoOffset → false ≡ isDate (characters s)
-          no-end u = rw (day .0, letter .0, time .0, second .0, subst (EndTold (drop 19 (characters s))) u end)
+          pub no-end : b ≡ 0 → false ≡ isDate (characters s)
+          no-end h = rw (day .0, letter .0, time .0, second .0, end-not (drop 19 (characters s)) (sym end ∙ h))
 
-          module _ (east west : ℕ) (c₁ : b ≡ Minutes east west) where
-            zone : EndTold (drop 19 (characters s)) (Minutes east west)
-            zone = subst (EndTold (drop 19 (characters s))) c₁ end
+          pub moved-small : l + b < 4319
+          moved-small = omega (arith, time .1, clock-less (characters s) 11 (time .0), end, end-small (drop 19 (characters s)))
 
-            pub clocks : Clocks l east west
-            clocks = record {
-              time-last = omega (arith, time .1, clock-less (characters s) 11 (time .0));
-              east-last = omega (arith, zone .1, offset-less 0x2B (zoneOf (drop 19 (characters s))));
-              west-last = omega (arith, zone .2, offset-less 0x2D (zoneOf (drop 19 (characters s))));
-            }
+          pub moved-fits : Fits w32 (l + b)
+          moved-fits = omega (arith, moved-small)
 
-            pub seconds : (r : Bool) → ((year : ℕ) → inCalendar (on year m n) ≡ true → r ≡ hasSecond x (on year m n) l east west) → r ≡ isDate (characters s)
-            seconds r h =
-                rw (day .0, letter .0, time .0, second .0, zone .0, ← second .1, ← day .1, ← time .1, ← zone .1, ← zone .2) (h y in-calendar)
+          module _ (h : b ≡ 0 → ⊥) (r : Bool) where
+            pub seconds : ((year : ℕ) → inCalendar (on year m n) ≡ true → r ≡ hasSecond x (on year m n) (l + b)) → r ≡ isDate (characters s)
+            seconds has =
+                let u₁ = end-is (drop 19 (characters s)) (λ e₁. h (end ∙ e₁)) in
+                rw (day .0, letter .0, time .0, second .0, u₁ .0, ← second .1, ← day .1, ← time .1, sym (end ∙ u₁ .1)) (has y in-calendar)

@@ -1,24 +1,17 @@
--- For private contracts: what a function tells of the end of a date, by the characters that stand there.
+-- For private contracts: the number that is read from the end of a date, by the characters that stand there.
 use Prim.Native.Nat.{ℕ}
-use mathlib.Core.Path.{_≡_}
-use mathlib.Core.Bool.{true, false}
+use mathlib.Core.Bool.{cond}
 use mathlib.Core.List.{List}
-use Rattle.model.specs.Date.{minutes, isOffset, isZone, zoneOf, isEnd, offset}
-use Rattle.date.specs.declared.walk.Number.{Number}
-use Rattle.date.specs.declared.walk.Number.the-variants.{Read, Wrong}
-use Rattle.date.specs.declared.endings.TimeOffset.{TimeOffset}
-use Rattle.date.specs.declared.endings.TimeOffset.the-variants.{Minutes, NoOffset}
+use Rattle.model.specs.Date.{minutes, isOffset, isZone, zoneOf, isEnd, behindUtc}
 
--- an offset with the sign c
-abbrev pub OffsetTold : ℕ → List ℕ → Number → Type 0
-OffsetTold c z (Read n j) = (isOffset c z ≡ true) × (n ≡ minutes z 1)
-OffsetTold c z Wrong = isOffset c z ≡ false
+-- the minutes of an offset with the sign c; 1440 for anything else
+abbrev pub offsetRead : ℕ → List ℕ → ℕ
+offsetRead c z = cond (isOffset c z) (minutes z 1) 1440
 
-abbrev pub ZoneTold : List ℕ → TimeOffset → Type 0
-ZoneTold z (Minutes e w) = (isZone z ≡ true) × (e ≡ offset 0x2B z) × (w ≡ offset 0x2D z)
-ZoneTold z NoOffset = isZone z ≡ false
+-- how far a zone is behind UTC; 0 for anything else
+abbrev pub zoneRead : List ℕ → ℕ
+zoneRead z = cond (isZone z) (behindUtc z) 0
 
--- perhaps a fraction, and a zone
-abbrev pub EndTold : List ℕ → TimeOffset → Type 0
-EndTold l (Minutes e w) = (isEnd l ≡ true) × (e ≡ offset 0x2B (zoneOf l)) × (w ≡ offset 0x2D (zoneOf l))
-EndTold l NoOffset = isEnd l ≡ false
+-- the same, where a fraction may stand before the zone
+abbrev pub endRead : List ℕ → ℕ
+endRead l = cond (isEnd l) (behindUtc (zoneOf l)) 0

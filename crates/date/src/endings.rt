@@ -1,4 +1,4 @@
-// The end of a date: perhaps a fraction of a second, and the zone with its offset.
+// The end of a date: perhaps a fraction of a second, and the zone.
 use crate::fields::Time;
 use crate::fields::clock;
 use crate::walk::Found;
@@ -7,66 +7,55 @@ use crate::walk::digit;
 use crate::walk::either;
 use crate::walk::ends;
 use crate::walk::mark;
+ghost use mathlib.Core.Path.{_≡_};
 ghost use Prim.Native.Nat.{_<_};
 ghost use Rattle.model.specs.Date.{afterDigits};
 ghost use Rattle.chars.specs.Strings.{charsAt};
-ghost use Rattle.date.specs.Endings.{OffsetTold, ZoneTold, EndTold};
+ghost use Rattle.date.specs.Endings.{offsetRead, zoneRead, endRead};
 
-// The minutes that a zone is east of UTC (`+hh:mm`) and west of it (`-hh:mm`): one is 0, and for `Z` both are.
-pub enum TimeOffset {
-    Minutes { east: u32, west: u32 },
-    NoOffset,
-}
-
-// The minutes of `hh:mm` behind the sign `c` at a place, and nothing behind it.
-fn offset(body: &[u8], at: usize, c: u8) -> Number
+// The minutes of `hh:mm` behind the sign `c` at a place, with nothing behind it; 1440 for anything else.
+fn offset(body: &[u8], at: usize, c: u8) -> u32
     requires { ⌜ 0 < c ⌝ }
-    ensures { λ r. ⌜ OffsetTold c (charsAt (now (body .entry)) at) r ⌝ }
+    ensures { λ r. ⌜ r ≡ offsetRead c (charsAt (now (body .entry)) at) ⌝ }
 {
+    let body = &body[..];
     let Found::Behind(time) = mark(body, at, c) else {
-        return Number::Wrong;
+        return 1440;
     };
     let Time::At { minutes, next } = clock(body, time) else {
-        return Number::Wrong;
+        return 1440;
     };
     if !ends(body, next) {
-        return Number::Wrong;
+        return 1440;
     }
-    Number::Read {
-        value: minutes,
-        next,
-    }
+    minutes
 }
 
-// `Z`, `z` or an offset at a place, and nothing behind it.
-fn zone(body: &[u8], at: usize) -> TimeOffset
-    ensures { λ r. ⌜ ZoneTold (charsAt (now (body .entry)) at) r ⌝ }
+// How far the zone at a place is behind UTC, in minutes, and a day more; 0 where there is none, or more behind it.
+fn zone(body: &[u8], at: usize) -> u32
+    ensures { λ r. ⌜ r ≡ zoneRead (charsAt (now (body .entry)) at) ⌝ }
 {
+    let body = &body[..];
     if let Found::Behind(next) = either(body, at, b'Z', b'z') {
         if ends(body, next) {
-            return TimeOffset::Minutes { east: 0, west: 0 };
+            return 1440;
         }
-        return TimeOffset::NoOffset;
+        return 0;
     }
-    if let Number::Read {
-        value: east,
-        next: _,
-    } = offset(body, at, b'+') {
-        return TimeOffset::Minutes { east, west: 0 };
+    let ahead = offset(body, at, b'+');
+    if ahead < 1440 {
+        return 1440 - ahead;
     }
-    let Number::Read {
-        value: west,
-        next: _,
-    } = offset(body, at, b'-')
-    else {
-        return TimeOffset::NoOffset;
-    };
-    TimeOffset::Minutes { east: 0, west }
+    let behind = offset(body, at, b'-');
+    if behind < 1440 {
+        return 1440 + behind;
+    }
+    0
 }
 
-// Digits at a place, perhaps none, and the zone behind them.
-fn digits(body: &[u8], at: usize) -> TimeOffset
-    ensures { λ r. ⌜ ZoneTold (afterDigits (charsAt (now (body .entry)) at)) r ⌝ }
+// The zone behind the digits at a place, of which there may be none.
+fn digits(body: &[u8], at: usize) -> u32
+    ensures { λ r. ⌜ r ≡ zoneRead (afterDigits (charsAt (now (body .entry)) at)) ⌝ }
 {
     let mut i = at;
     loop {
@@ -82,14 +71,15 @@ fn digits(body: &[u8], at: usize) -> TimeOffset
 }
 
 // Behind the seconds: perhaps `.` and one digit or more, then the zone.
-pub fn ending(body: &[u8], at: usize) -> TimeOffset
-    ensures { λ r. ⌜ EndTold (charsAt (now (body .entry)) at) r ⌝ }
+pub fn ending(body: &[u8], at: usize) -> u32
+    ensures { λ r. ⌜ r ≡ endRead (charsAt (now (body .entry)) at) ⌝ }
 {
+    let body = &body[..];
     let Found::Behind(point) = mark(body, at, b'.') else {
         return zone(body, at);
     };
     match digit(body, point) {
         Number::Read { value: _, next } => digits(body, next),
-        Number::Wrong => TimeOffset::NoOffset,
+        Number::Wrong => 0,
     }
 }

@@ -5,7 +5,6 @@ mod fields;
 mod seconds;
 mod walk;
 
-use crate::endings::TimeOffset;
 use crate::endings::ending;
 use crate::fields::Date;
 use crate::fields::Time;
@@ -50,8 +49,9 @@ pub fn is_date(body: &[u8]) -> bool
     else {
         return false;
     };
-    let TimeOffset::Minutes { east, west } = ending(body, next) else {
+    let behind = ending(body, next);
+    if behind == 0 {
         return false;
-    };
-    has_second(second, month, date, minutes, east, west)
+    }
+    has_second(second, month, date, minutes + behind)
 }

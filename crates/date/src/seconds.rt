@@ -1,10 +1,9 @@
 // The seconds of a minute (01, "Dates"; 02, L2).
 ghost use mathlib.Core.Path.{_≡_};
 ghost use mathlib.Core.Bool.{true};
-ghost use Prim.Native.Nat.{ℕ};
+ghost use Prim.Native.Nat.{ℕ, _<_};
 ghost use Rattle.model.specs.Calendar.{on, inCalendar, dayBefore};
 ghost use Rattle.model.specs.Date.{utcDay, utcMinute, endsHalf, isLeapMinute, hasSecond};
-ghost use Rattle.date.specs.Seconds.{Clocks};
 
 // 30 June or 31 December.
 fn ends_half(month: u32, day: u32) -> bool
@@ -30,24 +29,22 @@ fn starts_half(month: u32, day: u32) -> bool
     }
 }
 
-// Whether a written minute is 23:59 on 30 June or 31 December in UTC. An offset has less than a day, so that this is 23:59 of the written day or of the one before.
-fn is_leap_minute(month: u32, day: u32, time: u32, east: u32, west: u32) -> bool
-    requires { ⌜ Clocks time east west ⌝ }
-    ensures { λ r. ⌜ ((year : ℕ) → inCalendar (on year month day) ≡ true → r ≡ isLeapMinute (utcDay (on year month day) time east west) (utcMinute time east west)) ⌝ }
+// Whether a moved time is 23:59 on 30 June or 31 December. No zone is a day from UTC, so that it is 23:59 of the written day or of the day before.
+fn is_leap_minute(month: u32, day: u32, moved: u32) -> bool
+    requires { ⌜ moved < 4319 ⌝ }
+    ensures { λ r. ⌜ ((year : ℕ) → inCalendar (on year month day) ≡ true → r ≡ isLeapMinute (utcDay (on year month day) moved) (utcMinute moved)) ⌝ }
 {
-    if time + west + 1 == east {
-        return starts_half(month, day);
+    match moved {
+        1439 => starts_half(month, day),
+        2879 => ends_half(month, day),
+        _ => false,
     }
-    if time + west == 1439 + east {
-        return ends_half(month, day);
-    }
-    false
 }
 
-// Whether a written minute has a second.
-pub fn has_second(second: u32, month: u32, day: u32, time: u32, east: u32, west: u32) -> bool
-    requires { ⌜ Clocks time east west ⌝ }
-    ensures { λ r. ⌜ ((year : ℕ) → inCalendar (on year month day) ≡ true → r ≡ hasSecond second (on year month day) time east west) ⌝ }
+// Whether the minute of a moved time has a second.
+pub fn has_second(second: u32, month: u32, day: u32, moved: u32) -> bool
+    requires { ⌜ moved < 4319 ⌝ }
+    ensures { λ r. ⌜ ((year : ℕ) → inCalendar (on year month day) ≡ true → r ≡ hasSecond second (on year month day) moved) ⌝ }
 {
     if second <= 59 {
         return true;
@@ -55,5 +52,5 @@ pub fn has_second(second: u32, month: u32, day: u32, time: u32, east: u32, west:
     if second > 60 {
         return false;
     }
-    is_leap_minute(month, day, time, east, west)
+    is_leap_minute(month, day, moved)
 }

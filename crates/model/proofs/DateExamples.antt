@@ -6,7 +6,7 @@ use mathlib.Core.Bool.{Bool, true, not, _&&_}
 use mathlib.Core.List.{List, [], _∷_}
 use Rattle.model.specs.Text.{text}
 use Rattle.model.specs.Calendar.{Day, on, dayBefore, dayAfter}
-use Rattle.model.specs.Date.{utcDay, utcMinute, isDate}
+use Rattle.model.specs.Date.{dayOf, movedTime, utcDay, utcMinute, isDate}
 
 -- every one is a date; none is
 abbrev dates : List String → Bool
@@ -146,24 +146,24 @@ unfolding utcDay dayBefore
 leap-forms = (refl, refl)
 
 -- the day and the minute in UTC
-abbrev utc : Day → ℕ → ℕ → ℕ → Day → ℕ → Type 0
-utc x time east west y n = (utcDay x time east west ≡ y) × (utcMinute time east west ≡ n)
+abbrev utc : String → Day → ℕ → Type 0
+utc s x n = let t = text s in (utcDay (dayOf t) (movedTime t) ≡ x) × (utcMinute (movedTime t) ≡ n)
 
 utc-times :
-    utc (on 2024 3 1) 0 1 0 (on 2024 2 29) 1439
-    × utc (on 2023 3 1) 0 1 0 (on 2023 2 28) 1439
-    × utc (on 1900 3 1) 0 1 0 (on 1900 2 28) 1439
-    × utc (on 2024 2 29) 1439 0 1 (on 2024 3 1) 0
-    × utc (on 2024 2 28) 1439 0 1 (on 2024 2 29) 0
-    × utc (on 2023 2 28) 1439 0 1439 (on 2023 3 1) 1438
-    × utc (on 2024 7 1) 0 1439 0 (on 2024 6 30) 1
-    × utc (on 2024 5 1) 60 90 0 (on 2024 4 30) 1410
-    × utc (on 2025 1 1) 479 480 0 (on 2024 12 31) 1439
-    × utc (on 2024 12 31) 1439 0 1439 (on 2025 1 1) 1438
-    × utc (on 9999 12 31) 1439 0 1 (on 10000 1 1) 0
-    × utc (on 2024 6 15) 720 0 0 (on 2024 6 15) 720
-    × utc (on 2024 6 15) 720 720 0 (on 2024 6 15) 0
-    × utc (on 2024 6 15) 720 721 0 (on 2024 6 14) 1439
+    utc "2024-03-01T00:00:00+00:01" (on 2024 2 29) 1439
+    × utc "2023-03-01T00:00:00+00:01" (on 2023 2 28) 1439
+    × utc "1900-03-01T00:00:00.5+00:01" (on 1900 2 28) 1439
+    × utc "2024-02-29T23:59:00-00:01" (on 2024 3 1) 0
+    × utc "2024-02-28T23:59:00-00:01" (on 2024 2 29) 0
+    × utc "2023-02-28T23:59:00-23:59" (on 2023 3 1) 1438
+    × utc "2024-07-01T00:00:00+23:59" (on 2024 6 30) 1
+    × utc "2024-05-01T01:00:00+01:30" (on 2024 4 30) 1410
+    × utc "2025-01-01T07:59:00.25+08:00" (on 2024 12 31) 1439
+    × utc "2024-12-31T23:59:00-23:59" (on 2025 1 1) 1438
+    × utc "9999-12-31T23:59:00-00:01" (on 10000 1 1) 0
+    × utc "2024-06-15T12:00:00Z" (on 2024 6 15) 720
+    × utc "2024-06-15T12:00:00-00:00" (on 2024 6 15) 720
+    × utc "2024-06-15T12:00:00+12:01" (on 2024 6 14) 1439
 unfolding utcDay dayBefore dayAfter
 utc-times = (
   (refl, refl),

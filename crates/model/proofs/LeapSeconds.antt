@@ -9,7 +9,7 @@ use lib.Dec.{leb, ltb, eqb}
 use lib.ListN.{length}
 use borrow.Author.Tests.{eqb-true, eqb-false, ne-eqb, leb-true, le-leb, lt-leb, ltb-true, ltb-false}
 use Rattle.model.specs.Calendar.{Day, dayBefore}
-use Rattle.model.specs.Date.{at, twoDigits, two, isClock, minutes, isOffset, offset, moved, utcDay, utcMinute, endsHalf, isLeapMinute, hasSecond}
+use Rattle.model.specs.Date.{at, twoDigits, two, isClock, minutes, isOffset, offset, behindUtc, utcDay, utcMinute, endsHalf, isLeapMinute, hasSecond}
 use Rattle.model.proofs.Basics.{and-ways, both, by-test, clash}
 
 -- "Hours 00 to 23, minutes 00 to 59": a time and an offset have less than a day
@@ -25,47 +25,52 @@ offset-less c z = both (λ (n : ℕ). n < 1440) (isOffset c z)
     and-ways (eqb (at z 0) c) (isClock z 1) f (λ _ k. clock-less z 1 k)))
     (λ _. omega arith)
 
-module _ (x : Day) (time east west : ℕ) where
-  -- the written minute is 23:59 on 30 June or 31 December in UTC
-  abbrev pub leaps : Bool
-  leaps = isLeapMinute (utcDay x time east west) (utcMinute time east west)
+-- how far a zone is behind UTC, and a day more, is less than two days, and never nothing
+pub behind-range : (z : List ℕ) → (0 < behindUtc z) × (behindUtc z < 2880)
+behind-range z = (omega (arith, offset-less 0x2B z), omega (arith, offset-less 0x2D z))
 
-  -- it is 23:59 of the day before
-  pub on-eve : time + west + 1 ≡ east → leaps ≡ endsHalf (dayBefore x)
+module _ (x : Day) (n : ℕ) where
+  -- the moved time n is 23:59 on 30 June or 31 December
+  abbrev pub leaps : Bool
+  leaps = isLeapMinute (utcDay x n) (utcMinute n)
+
+  -- it is 23:59 of the day before the written one
+  pub on-eve : n ≡ 1439 → leaps ≡ endsHalf (dayBefore x)
   unfolding utcDay
-  on-eve e = let n : moved time east west ≡ 1439 = omega (arith, e) in rw n refl
+  on-eve e = rw e refl
 
   -- it is 23:59 of the written day
-  pub on-day : time + west ≡ 1439 + east → leaps ≡ endsHalf x
+  pub on-day : n ≡ 2879 → leaps ≡ endsHalf x
   unfolding utcDay
-  on-day e = let n : moved time east west ≡ 2879 = omega (arith, e) in rw n refl
+  on-day e = rw e refl
 
   -- it is another minute
-  pub off-minute : time < 1440 → east < 1440 → west < 1440 → (time + west + 1 ≡ east → ⊥) → (time + west ≡ 1439 + east → ⊥) → leaps ≡ false
-  off-minute a b c f g =
-      rw (ne-eqb (utcMinute time east west) 1439 (λ e. by-test (ltb (time + west) east)
-      (λ t. f (omega (arith, e, ltb-true (time + west) east t)))
-      (λ t. g (omega (arith, e, ltb-false (time + west) east t)))))
-
-  -- so, of what is written: 23:59 with the offset added, on 30 June or 31 December, or past midnight on the day after
-  pub leap-minute : time < 1440 → east < 1440 → west < 1440
-      → (leaps ≡ true) ↔ (((endsHalf x ≡ true) × (time + west ≡ 1439 + east)) ⊎ ((endsHalf (dayBefore x) ≡ true) × (time + west + 1 ≡ east)))
-  leap-minute a b c = (
-    λ h. by-test (eqb (time + west + 1) east)
-        (λ t. let e = eqb-true (time + west + 1) east t in inr (sym (on-eve e) ∙ h, e))
-        (λ f. by-test (eqb (time + west) (1439 + east))
-        (λ t. let e = eqb-true (time + west) (1439 + east) t in inl (sym (on-day e) ∙ h, e))
-        (λ g. clash leaps h (off-minute a b c (eqb-false (time + west + 1) east f) (eqb-false (time + west) (1439 + east) g)))),
-    λ w. ⊎-elim (λ u. on-day (u .1) ∙ u .0) (λ u. on-eve (u .1) ∙ u .0) w,
-  )
+  pub off-minute : n < 4319 → (n ≡ 1439 → ⊥) → (n ≡ 2879 → ⊥) → leaps ≡ false
+  off-minute h f g =
+      rw (ne-eqb (utcMinute n) 1439 (λ e. by-test (ltb n 1440) (λ t. f (omega (arith, e, ltb-true n 1440 t))) (λ t. g (omega (arith, e, ltb-false n 1440 t)))))
 
   -- ---- 00 to 59 always, 60 in such a minute, more never
-  module _ (n : ℕ) where
-    pub seconds-59 : n ≤ 59 → hasSecond n x time east west ≡ true
-    seconds-59 h = rw (le-leb n 59 h)
+  module _ (k : ℕ) where
+    pub seconds-59 : k ≤ 59 → hasSecond k x n ≡ true
+    seconds-59 h = rw (le-leb k 59 h)
 
-    pub second-60 : n ≡ 60 → hasSecond n x time east west ≡ leaps
+    pub second-60 : k ≡ 60 → hasSecond k x n ≡ leaps
     second-60 e = rw e
 
-    pub seconds-61 : 60 < n → hasSecond n x time east west ≡ false
-    seconds-61 h = rw (lt-leb n 59 (omega arith), ne-eqb n 60 (λ e. omega arith))
+    pub seconds-61 : 60 < k → hasSecond k x n ≡ false
+    seconds-61 h = rw (lt-leb k 59 (omega arith), ne-eqb k 60 (λ e. omega arith))
+
+-- so, of what is written: 23:59 with the offset added, on 30 June or 31 December, or past midnight on the day after
+pub leap-minute : (x : Day) (time : ℕ) (z : List ℕ) → time < 1440
+    → (leaps x (time + behindUtc z) ≡ true)
+    ↔ (((endsHalf x ≡ true) × (time + offset 0x2D z ≡ 1439 + offset 0x2B z)) ⊎ ((endsHalf (dayBefore x) ≡ true) × (time + offset 0x2D z + 1 ≡ offset 0x2B z)))
+leap-minute x time z a =
+    let n = time + behindUtc z in
+    let b = offset-less 0x2B z in (
+      λ h. by-test (eqb n 1439)
+          (λ t. let e = eqb-true n 1439 t in inr (sym (on-eve x n e) ∙ h, omega (arith, e, b)))
+          (λ f. by-test (eqb n 2879)
+          (λ t. let e = eqb-true n 2879 t in inl (sym (on-day x n e) ∙ h, omega (arith, e, b)))
+          (λ g. clash (leaps x n) h (off-minute x n (omega (arith, a, behind-range z .1)) (eqb-false n 1439 f) (eqb-false n 2879 g)))),
+      λ w. ⊎-elim (λ u. on-day x n (omega (arith, u .1, b)) ∙ u .0) (λ u. on-eve x n (omega (arith, u .1, b)) ∙ u .0) w,
+    )

@@ -62,17 +62,20 @@ isEnd s = (not (eqb (at s 0) 0x2E) || isDigit (at s 1)) && isZone (zoneOf s)
 abbrev pub offset : ℕ → List ℕ → ℕ
 offset c z = cond (isOffset c z) (minutes z 1) 0
 
--- "the time, moved by its offset to UTC", which is east (`+`) or west (`-`) of it: in minutes, from the start of the day before the written one on
-abbrev pub moved : ℕ → ℕ → ℕ → ℕ
-moved time east west = 1440 + time + west - east
+-- how far a zone is behind UTC, in minutes, and a day more, so that no number is negative: `-hh:mm` is behind, `+hh:mm` ahead
+abbrev pub behindUtc : List ℕ → ℕ
+behindUtc z = 1440 + offset 0x2D z - offset 0x2B z
 
--- the day in UTC of a time on the day x, and its minute of that day
-unfoldable pub utcDay : Day → ℕ → ℕ → ℕ → Day
-utcDay x time east west =
-    cond (ltb (moved time east west) 1440) (dayBefore x) (cond (ltb (moved time east west) 2880) x (dayAfter x))
+-- "the time, moved by its offset to UTC": in minutes, from the start of the day before the written one
+abbrev pub movedTime : List ℕ → ℕ
+movedTime s = minutes s 11 + behindUtc (zoneOf (drop 19 s))
 
-abbrev pub utcMinute : ℕ → ℕ → ℕ → ℕ
-utcMinute time east west = moved time east west % 1440
+-- where the day x is written and n is the moved time: the day in UTC, and the minute of that day
+unfoldable pub utcDay : Day → ℕ → Day
+utcDay x n = cond (ltb n 1440) (dayBefore x) (cond (ltb n 2880) x (dayAfter x))
+
+abbrev pub utcMinute : ℕ → ℕ
+utcMinute n = n % 1440
 
 -- "30 June or 31 December, in any year"
 abbrev pub endsHalf : Day → Bool
@@ -82,14 +85,12 @@ endsHalf x = (eqb (x .month) 6 && eqb (x .day) 30) || (eqb (x .month) 12 && eqb 
 abbrev pub isLeapMinute : Day → ℕ → Bool
 isLeapMinute x n = eqb n (60 * 23 + 59) && endsHalf x
 
--- "seconds 00 to 59" (01); "Second 60 is taken exactly when the time, moved by its offset to UTC, is" such a minute of its day (02, L2)
-abbrev pub hasSecond : ℕ → Day → ℕ → ℕ → ℕ → Bool
-hasSecond n x time east west = leb n 59 || (eqb n 60 && isLeapMinute (utcDay x time east west) (utcMinute time east west))
+-- "seconds 00 to 59" (01); "Second 60 is taken exactly when the time, moved by its offset to UTC, is" such a minute (02, L2)
+abbrev pub hasSecond : ℕ → Day → ℕ → Bool
+hasSecond k x n = leb k 59 || (eqb k 60 && isLeapMinute (utcDay x n) (utcMinute n))
 
 -- "`YYYY-MM-DD`, `T` or `t`, `hh:mm:ss`", then its end
 abbrev pub isDate : List ℕ → Bool
 isDate s =
-    let z = zoneOf (drop 19 s) in
     isDay s && (eqb (at s 10) 0x54 || eqb (at s 10) 0x74)
-    && isClock s 11 && eqb (at s 16) 0x3A && twoDigits s 17 && isEnd (drop 19 s)
-    && hasSecond (two s 17) (dayOf s) (minutes s 11) (offset 0x2B z) (offset 0x2D z)
+    && isClock s 11 && eqb (at s 16) 0x3A && twoDigits s 17 && isEnd (drop 19 s) && hasSecond (two s 17) (dayOf s) (movedTime s)

@@ -3,7 +3,7 @@ use mathlib.Core.Path.{_≡_, refl, sym, ap, subst, _∙_}
 use mathlib.Core.Logic.{⊎-elim}
 use mathlib.Core.List.{List, [], _∷_}
 use mathlib.Core.Bool.{Bool, true, false, not, _&&_, _||_, and-true, and-false, false≢true}
-use Prim.Native.Nat.{ℕ, _≤_, _<_}
+use Prim.Native.Nat.{ℕ, _+_, _-_, _≤_, _<_}
 use native.Mathlib.Decide.{decLe}
 use native.Mathlib.Omega.{arith}
 use lib.ListN.{length, drop}
@@ -12,8 +12,9 @@ use lib.Dec.{leb, eqb}
 use borrow.Author.Tests.{le-leb, lt-leb, eq-eqb, ne-eqb, eqb-true, not-true, not-false}
 use Rattle.model.specs.Text.{same}
 use Rattle.model.specs.Value.{isDigit}
-use Rattle.model.specs.Date.{at, isClock, isOffset, isZone, afterDigits, zoneOf, isEnd}
+use Rattle.model.specs.Date.{at, minutes, isClock, isOffset, isZone, afterDigits, offset}
 use Rattle.model.proofs.Basics.{and-ways, by-test, clash, or-true, or-false as neither}
+use Rattle.model.proofs.LeapSeconds.{offset-less}
 use Rattle.chars.proofs.Facts.{in-text}
 use Rattle.chars.specs.Strings.{charsAt}
 use Rattle.date.specs.declared.walk.Number.{Number}
@@ -22,10 +23,8 @@ use Rattle.date.specs.declared.walk.Found.{Found}
 use Rattle.date.specs.declared.walk.Found.the-variants.{Behind, Nothing}
 use Rattle.date.specs.declared.fields.Time.{Time}
 use Rattle.date.specs.declared.fields.Time.the-variants.{At, NoTime}
-use Rattle.date.specs.declared.endings.TimeOffset.{TimeOffset}
-use Rattle.date.specs.declared.endings.TimeOffset.the-variants.{Minutes, NoOffset}
 use Rattle.date.specs.Walk.{Stands, DigitTold, MarkTold, EitherTold, ClockTold}
-use Rattle.date.specs.Endings.{OffsetTold, ZoneTold, EndTold}
+use Rattle.date.specs.Endings.{offsetRead, zoneRead, endRead}
 use Rattle.date.proofs.walk.Laws.{Digit, Mark, Either, at-drop, digit-range}
 use Rattle.date.proofs.fields.Laws.{Clock}
 
@@ -51,14 +50,14 @@ clock-long l h =
 
 -- the sign a at i and, behind it, the time d
 module _ (s : List ℕ) (i c : ℕ) (a : Found) (t : Mark s i c a) where
-  pub no-sign : a ≡ Nothing → isOffset c (charsAt s i) ≡ false
+  pub no-sign : a ≡ Nothing → 1440 ≡ offsetRead c (charsAt s i)
   no-sign q = rw (subst (Mark s i c) q t (charsAt s i) 0 refl)
 
   module _ (j : ℕ) (q : a ≡ Behind j) (d : Time) (w : Clock s j d) where
     sign : MarkTold s (charsAt s i) 0 c (Behind j)
     sign = subst (Mark s i c) q t (charsAt s i) 0 refl
 
-    pub no-time : d ≡ NoTime → isOffset c (charsAt s i) ≡ false
+    pub no-time : d ≡ NoTime → 1440 ≡ offsetRead c (charsAt s i)
     no-time o = rw (sign .0, subst (Clock s j) o w (charsAt s i) 1 (sign .1))
 
     module _ (m n : ℕ) (o : d ≡ At m n) (r : Bool) (e : Ends s n r) where
@@ -68,11 +67,11 @@ module _ (s : List ℕ) (i c : ℕ) (a : Found) (t : Mark s i c a) where
       judged : isOffset c (charsAt s i) ≡ r
       judged = rw (sign .0, time .0) (eqb-leb (length (charsAt s i)) 6 (clock-long (charsAt s i) (time .0)) ∙ sym (e (charsAt s i) 6 (time .2)))
 
-      pub more-behind : not r ≡ true → isOffset c (charsAt s i) ≡ false
-      more-behind f = judged ∙ not-true r f
+      pub more-behind : not r ≡ true → 1440 ≡ offsetRead c (charsAt s i)
+      more-behind f = rw (judged ∙ not-true r f)
 
-      pub offset-read : not r ≡ false → OffsetTold c (charsAt s i) (Read m n)
-      offset-read f = (judged ∙ not-false r f, time .1)
+      pub offset-read : not r ≡ false → m ≡ offsetRead c (charsAt s i)
+      offset-read f = rw (judged ∙ not-false r f) (time .1)
 
 -- ---- zones
 
@@ -105,7 +104,14 @@ one-sign l h =
     and-ways (eqb (at l 0) 0x2B && isClock l 1) (eqb (length l) 6) h (λ f _.
     and-ways (eqb (at l 0) 0x2B) (isClock l 1) f (λ g _. rw (eqb-true (at l 0) 0x2B g)))
 
--- the letter a at i; or an offset, of which b tells if its sign is `+`, and d if it is `-`
+-- whether an offset was read
+offset-is : (c : ℕ) (l : List ℕ) → offsetRead c l < 1440 → (isOffset c l ≡ true) × (offsetRead c l ≡ minutes l 1)
+offset-is c l h = by-test (isOffset c l) (λ t. (t, rw t)) (λ f. absurd (let e : offsetRead c l ≡ 1440 = rw f in omega arith))
+
+offset-not : (c : ℕ) (l : List ℕ) → 1440 ≤ offsetRead c l → isOffset c l ≡ false
+offset-not c l h = by-test (isOffset c l) (λ t. absurd (let e : offsetRead c l ≡ offset c l = rw t in omega (arith, offset-less c l))) (λ f. f)
+
+-- the letter a at i; or an offset: b minutes if its sign is `+`, d if it is `-`
 module _ (s : List ℕ) (i : ℕ) (a : Found) (t : Either s i 0x5A 0x7A a) where
   module _ (j : ℕ) (q : a ≡ Behind j) (r : Bool) (e : Ends s j r) where
     letter : EitherTold s (charsAt s i) 0 0x5A 0x7A (Behind j)
@@ -114,32 +120,32 @@ module _ (s : List ℕ) (i : ℕ) (a : Found) (t : Either s i 0x5A 0x7A a) where
     ended : isZone (charsAt s i) ≡ r
     ended = zone-letter (charsAt s i) (letter .0) ∙ sym (e (charsAt s i) 1 (letter .1))
 
-    pub letter-ends : r ≡ true → ZoneTold (charsAt s i) (Minutes 0 0)
-    letter-ends f = (ended ∙ f, rw (letter-sign 0x2B _ (omega arith) (letter .0)), rw (letter-sign 0x2D _ (omega arith) (letter .0)))
+    pub letter-ends : r ≡ true → 1440 ≡ zoneRead (charsAt s i)
+    letter-ends f = rw (ended ∙ f, letter-sign 0x2B _ (omega arith) (letter .0), letter-sign 0x2D _ (omega arith) (letter .0))
 
-    pub letter-more : r ≡ false → isZone (charsAt s i) ≡ false
-    letter-more f = ended ∙ f
+    pub letter-more : r ≡ false → 0 ≡ zoneRead (charsAt s i)
+    letter-more f = rw (ended ∙ f)
 
-  module _ (q : a ≡ Nothing) (b : Number) (u : OffsetTold 0x2B (charsAt s i) b) where
+  module _ (q : a ≡ Nothing) (b : ℕ) (u : b ≡ offsetRead 0x2B (charsAt s i)) where
     without : isZone (charsAt s i) ≡ (isOffset 0x2B (charsAt s i) || isOffset 0x2D (charsAt s i))
     without = zone-offset (charsAt s i) (subst (Either s i 0x5A 0x7A) q t (charsAt s i) 0 refl)
 
-    pub east-read : (n j : ℕ) → b ≡ Read n j → ZoneTold (charsAt s i) (Minutes n 0)
-    east-read n j p =
-        let x = subst (OffsetTold 0x2B (charsAt s i)) p u in
-        (without ∙ rw (x .0), rw (x .0) (x .1), rw (one-sign (charsAt s i) (x .0)))
+    pub ahead-read : b < 1440 → 1440 - b ≡ zoneRead (charsAt s i)
+    ahead-read h =
+        let x = offset-is 0x2B (charsAt s i) (omega (arith, h, u)) in
+        rw (without, x .0, one-sign (charsAt s i) (x .0), u ∙ x .1)
 
-    module _ (p : b ≡ Wrong) (d : Number) (w : OffsetTold 0x2D (charsAt s i) d) where
-      no-east : isOffset 0x2B (charsAt s i) ≡ false
-      no-east = subst (OffsetTold 0x2B (charsAt s i)) p u
+    module _ (h : 1440 ≤ b) (d : ℕ) (w : d ≡ offsetRead 0x2D (charsAt s i)) where
+      no-ahead : isOffset 0x2B (charsAt s i) ≡ false
+      no-ahead = offset-not 0x2B (charsAt s i) (omega (arith, h, u))
 
-      pub no-offset : d ≡ Wrong → isZone (charsAt s i) ≡ false
-      no-offset o = without ∙ rw (no-east, subst (OffsetTold 0x2D (charsAt s i)) o w)
+      pub behind-read : d < 1440 → 1440 + d ≡ zoneRead (charsAt s i)
+      behind-read k =
+          let x = offset-is 0x2D (charsAt s i) (omega (arith, k, w)) in
+          rw (without, no-ahead, x .0, w ∙ x .1) (omega arith)
 
-      pub west-read : (n j : ℕ) → d ≡ Read n j → ZoneTold (charsAt s i) (Minutes 0 n)
-      west-read n j o =
-          let x = subst (OffsetTold 0x2D (charsAt s i)) o w in
-          (without ∙ rw (no-east, x .0), rw no-east, rw (x .0) (x .1))
+      pub no-offset : 1440 ≤ d → 0 ≡ zoneRead (charsAt s i)
+      no-offset k = rw (without, no-ahead, offset-not 0x2D (charsAt s i) (omega (arith, k, w)))
 
 -- ---- fractions
 
@@ -167,32 +173,24 @@ module _ (s : List ℕ) (i : ℕ) (a : Number) (t : Digit s i a) where
     pub skipped : (z : List ℕ) → z ≡ afterDigits (charsAt s i) → z ≡ afterDigits (charsAt s j)
     skipped z h = h ∙ digit-skip (charsAt s i) (digit .0) ∙ ap afterDigits (sym (digit .2))
 
-  pub digits-end : (z : List ℕ) → z ≡ afterDigits (charsAt s i) → a ≡ Wrong → (r : TimeOffset) → ZoneTold (charsAt s i) r → ZoneTold z r
-  digits-end z h q r g =
-      subst (λ (z : List ℕ). ZoneTold z r) (sym (h ∙ digit-stop (charsAt s i) (subst (Digit s i) q t (charsAt s i) 0 refl))) g
-
--- the end of a date is told as its zone
-end-told : (l z : List ℕ) (r : TimeOffset) → zoneOf l ≡ z → isEnd l ≡ isZone z → ZoneTold z r → EndTold l r
-end-told l z (Minutes e w) p q h = (q ∙ h .0, rw p (h .1), rw p (h .2))
-end-told l z NoOffset p q h = q ∙ h
+  pub digits-end : (z : List ℕ) → z ≡ afterDigits (charsAt s i) → a ≡ Wrong → (r : ℕ) → r ≡ zoneRead (charsAt s i) → r ≡ zoneRead z
+  digits-end z h q r g = g ∙ ap zoneRead (sym (h ∙ digit-stop (charsAt s i) (subst (Digit s i) q t (charsAt s i) 0 refl)))
 
 -- the end at i: the point a and, behind it, the digit b
 module _ (s : List ℕ) (i : ℕ) (a : Found) (t : Mark s i 0x2E a) where
-  pub no-point : a ≡ Nothing → (r : TimeOffset) → ZoneTold (charsAt s i) r → EndTold (charsAt s i) r
-  no-point q r h =
-      let x : eqb (at (charsAt s i) 0) 0x2E ≡ false = subst (Mark s i 0x2E) q t (charsAt s i) 0 refl in
-      end-told (charsAt s i) (charsAt s i) r (rw x) (rw x) h
+  pub no-point : a ≡ Nothing → (r : ℕ) → r ≡ zoneRead (charsAt s i) → r ≡ endRead (charsAt s i)
+  no-point q r h = let x : eqb (at (charsAt s i) 0) 0x2E ≡ false = subst (Mark s i 0x2E) q t (charsAt s i) 0 refl in rw x h
 
   module _ (j : ℕ) (q : a ≡ Behind j) (b : Number) (u : Digit s j b) where
     point : MarkTold s (charsAt s i) 0 0x2E (Behind j)
     point = subst (Mark s i 0x2E) q t (charsAt s i) 0 refl
 
-    pub no-fraction : b ≡ Wrong → isEnd (charsAt s i) ≡ false
+    pub no-fraction : b ≡ Wrong → 0 ≡ endRead (charsAt s i)
     no-fraction p = rw (point .0, subst (Digit s j) p u (charsAt s i) 1 (point .1))
 
-    pub fraction : (v n : ℕ) → b ≡ Read v n → (r : TimeOffset) → ZoneTold (afterDigits (charsAt s n)) r → EndTold (charsAt s i) r
+    pub fraction : (v n : ℕ) → b ≡ Read v n → (r : ℕ) → r ≡ zoneRead (afterDigits (charsAt s n)) → r ≡ endRead (charsAt s i)
     fraction v n p r h =
         let x = subst (Digit s j) p u (charsAt s i) 1 (point .1) in
         let z : afterDigits (drop 1 (charsAt s i)) ≡ afterDigits (charsAt s n) =
         digit-skip (drop 1 (charsAt s i)) (ap isDigit (at-drop (charsAt s i) 1) ∙ x .0) ∙ ap afterDigits (drop-drop 1 1 (charsAt s i) ∙ sym (x .2)) in
-        end-told (charsAt s i) (afterDigits (charsAt s n)) r (rw (point .0) z) (rw (point .0, x .0, z)) h
+        rw (point .0, x .0, z) h

@@ -1,6 +1,6 @@
 -- `date::is_date` meets its contract: without the day, the letter, the time, the second or the end, and where the seconds of the minute decide.
 use borrow.Author.Needs.{needs}
-use Rattle.date.proofs.Laws.{no-day, no-letter, no-time, no-second, no-end, clocks, seconds}
+use Rattle.date.proofs.Laws.{no-day, no-letter, no-time, no-second, no-end, moved-small, moved-fits, seconds}
 use Rattle.date.proofs.is_date.Statement.{statement}
 use Rattle.date.proofs.is_date.Tie as tie
 
@@ -23,8 +23,7 @@ is-date-spec = tie.close (tie.spec
     (λ c. search needs)  -- enum-told-4
     (λ c. search no-second)  -- returns-4
     (λ c κs. search needs)  -- ending-requires
-    (λ c. search needs)  -- enum-known-east
-    (λ c. search needs)  -- enum-told-5
     (λ c. search no-end)  -- returns-5
-    (λ c κs. search clocks)  -- has-second-requires
+    (λ c. search moved-fits)  -- add-has-second
+    (λ c κs. search moved-small)  -- has-second-requires
     (λ c. search seconds))  -- returns-6

@@ -1,4 +1,4 @@
--- The seconds of a written minute, on plain values: what is told of them by the tests of the day and of the time.
+-- The seconds of a minute, on plain values: what is told of them by the tests of the day and of the moved time.
 use mathlib.Core.Path.{_≡_, sym, _∙_}
 use mathlib.Core.Logic.{_⊎_, inl, inr}
 use mathlib.Core.Bool.{Bool, true, false, or-false}
@@ -10,7 +10,6 @@ use Rattle.model.specs.Calendar.{on, inCalendar, dayBefore}
 use Rattle.model.specs.Date.{endsHalf, hasSecond}
 use Rattle.model.proofs.Days.{eve}
 use Rattle.model.proofs.LeapSeconds.{leaps, on-eve, on-day, off-minute, seconds-59, second-60, seconds-61}
-use Rattle.date.specs.Seconds.{Clocks}
 
 -- ---- 30 June and 31 December, and the days after
 
@@ -37,28 +36,28 @@ module _ (m d : ℕ) where
 
 -- ---- the minute
 
-module _ (m d time east west : ℕ) where
-  -- what is told of it whatever the year
+module _ (m d n : ℕ) where
+  -- what is told of the moved time n, whatever the year
   abbrev pub Leaps : Bool → Type 0
-  Leaps r = (y : ℕ) → inCalendar (on y m d) ≡ true → r ≡ leaps (on y m d) time east west
+  Leaps r = (y : ℕ) → inCalendar (on y m d) ≡ true → r ≡ leaps (on y m d) n
 
-  pub of-eve : time + west + 1 ≡ east → (r : Bool) → ((y : ℕ) → inCalendar (on y m d) ≡ true → r ≡ endsHalf (dayBefore (on y m d))) → Leaps r
-  of-eve e r f y h = f y h ∙ sym (on-eve (on y m d) time east west e)
+  pub of-eve : n ≡ 1439 → (r : Bool) → ((y : ℕ) → inCalendar (on y m d) ≡ true → r ≡ endsHalf (dayBefore (on y m d))) → Leaps r
+  of-eve e r f y h = f y h ∙ sym (on-eve (on y m d) n e)
 
-  pub of-day : time + west ≡ 1439 + east → (r : Bool) → ((y : ℕ) → r ≡ endsHalf (on y m d)) → Leaps r
-  of-day e r f y h = f y ∙ sym (on-day (on y m d) time east west e)
+  pub of-day : n ≡ 2879 → (r : Bool) → ((y : ℕ) → r ≡ endsHalf (on y m d)) → Leaps r
+  of-day e r f y h = f y ∙ sym (on-day (on y m d) n e)
 
-  pub of-other : Clocks time east west → (time + west + 1 ≡ east → ⊥) → (time + west ≡ 1439 + east → ⊥) → Leaps false
-  of-other c f g y h = sym (off-minute (on y m d) time east west (c .time-last) (c .east-last) (c .west-last) f g)
+  pub of-other : n < 4319 → (n ≡ 1439 → ⊥) → (n ≡ 2879 → ⊥) → Leaps false
+  of-other c f g y h = sym (off-minute (on y m d) n c f g)
 
   -- ---- the second
 
-  module _ (n y : ℕ) (h : inCalendar (on y m d) ≡ true) where
-    pub to-59 : n ≤ 59 → true ≡ hasSecond n (on y m d) time east west
-    to-59 a = sym (seconds-59 (on y m d) time east west n a)
+  module _ (k y : ℕ) (h : inCalendar (on y m d) ≡ true) where
+    pub to-59 : k ≤ 59 → true ≡ hasSecond k (on y m d) n
+    to-59 a = sym (seconds-59 (on y m d) n k a)
 
-    pub from-61 : 60 < n → false ≡ hasSecond n (on y m d) time east west
-    from-61 a = sym (seconds-61 (on y m d) time east west n a)
+    pub from-61 : 60 < k → false ≡ hasSecond k (on y m d) n
+    from-61 a = sym (seconds-61 (on y m d) n k a)
 
-    pub at-60 : 59 < n → n ≤ 60 → (r : Bool) → Leaps r → r ≡ hasSecond n (on y m d) time east west
-    at-60 a b r f = f y h ∙ sym (second-60 (on y m d) time east west n (omega arith))
+    pub at-60 : 59 < k → k ≤ 60 → (r : Bool) → Leaps r → r ≡ hasSecond k (on y m d) n
+    at-60 a b r f = f y h ∙ sym (second-60 (on y m d) n k (omega arith))

@@ -6,12 +6,8 @@ use Rattle.date.proofs.seconds.is_leap_minute.Tie as tie
 
 pub is-leap-minute-spec : {M : Type 1} → statement M
 is-leap-minute-spec = tie.close (tie.spec
-    (λ c. search needs)  -- add-if1
-    (λ c. search needs)  -- add-if1-2
     (λ c κs. search needs)  -- starts-half-requires
-    (λ c. search of-eve)  -- returns
-    (λ c. search needs)  -- add-if2
-    (λ c. search needs)  -- add-if2-2
     (λ c κs. search needs)  -- ends-half-requires
+    (λ c. search of-eve)  -- returns
     (λ c. search of-day)  -- returns-2
     (λ c. search of-other))  -- returns-3
