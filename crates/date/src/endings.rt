@@ -13,20 +13,23 @@ ghost use Rattle.model.specs.Date.{afterDigits};
 ghost use Rattle.chars.specs.Strings.{charsAt};
 ghost use Rattle.date.specs.Endings.{offsetRead, zoneRead, endRead};
 
-// The minutes of `hh:mm` behind the sign `c` at a place, with nothing behind it; 1440 for anything else.
+// The minutes of a day, which no offset has.
+const DAY: u32 = 1440;
+
+// The minutes of `hh:mm` behind the sign `c` at a place, with nothing behind it; a day for anything else.
 fn offset(body: &[u8], at: usize, c: u8) -> u32
     requires { ⌜ 0 < c ⌝ }
     ensures { λ r. ⌜ r ≡ offsetRead c (charsAt (now (body .entry)) at) ⌝ }
 {
     let body = &body[..];
     let Found::Behind(time) = mark(body, at, c) else {
-        return 1440;
+        return DAY;
     };
     let Time::At { minutes, next } = clock(body, time) else {
-        return 1440;
+        return DAY;
     };
     if !ends(body, next) {
-        return 1440;
+        return DAY;
     }
     minutes
 }
@@ -38,17 +41,17 @@ fn zone(body: &[u8], at: usize) -> u32
     let body = &body[..];
     if let Found::Behind(next) = either(body, at, b'Z', b'z') {
         if ends(body, next) {
-            return 1440;
+            return DAY;
         }
         return 0;
     }
     let ahead = offset(body, at, b'+');
-    if ahead < 1440 {
-        return 1440 - ahead;
+    if ahead < DAY {
+        return DAY - ahead;
     }
     let behind = offset(body, at, b'-');
-    if behind < 1440 {
-        return 1440 + behind;
+    if behind < DAY {
+        return DAY + behind;
     }
     0
 }

@@ -61,6 +61,7 @@ pub fn day(body: &[u8]) -> Date
 pub fn clock(body: &[u8], at: usize) -> Time
     ensures { λ r. ⌜ ((l : List ℕ) (k : ℕ) → Stands (now (body .entry)) at l k → ClockTold (now (body .entry)) l k r) ⌝ }
 {
+    let body = &body[..];
     let Number::Read {
         value: hour,
         next: colon,

@@ -1,14 +1,13 @@
 -- The days of the calendar: what holds of each, of the day before, and of the day after.
 use Prim.Native.Nat.{ℕ, _+_, _-_, _≤_, _<_}
 use mathlib.Core.Path.{_≡_, refl, ap, subst, _∙_}
-use mathlib.Core.Logic.{⊎-elim}
-use mathlib.Core.Bool.{true, _&&_, _||_}
+use mathlib.Core.Bool.{true, false, _&&_, _||_}
 use native.Mathlib.Omega.{arith}
 use lib.Dec.{leb, ltb, eqb}
 use borrow.Author.Tests.{eqb-true, eqb-false, ne-eqb, leb-true, ltb-true, ltb-false, lt-ltb, le-ltb}
 use Rattle.model.specs.Calendar.{on, daysIn, inCalendar, dayBefore, dayAfter}
 use Rattle.model.specs.Date.{endsHalf}
-use Rattle.model.proofs.Basics.{and-ways, by-test, or-true}
+use Rattle.model.proofs.Basics.{and-ways, by-test}
 
 pub record OnCalendar (y m d : ℕ) : Type 0 where
   pub month-first : 1 ≤ m
@@ -16,22 +15,21 @@ pub record OnCalendar (y m d : ℕ) : Type 0 where
   pub day-first : 1 ≤ d
   pub day-last : d ≤ daysIn y m
 
-module _ (y m d : ℕ) where
-  pub on-calendar : inCalendar (on y m d) ≡ true → OnCalendar y m d
-  on-calendar h =
-      and-ways (leb 1 m && leb m 12 && leb 1 d) (leb d (daysIn y m)) h (λ f last.
-      and-ways (leb 1 m && leb m 12) (leb 1 d) f (λ g first.
-      and-ways (leb 1 m) (leb m 12) g (λ a b. record {
-        month-first = leb-true 1 m a;
-        month-last = leb-true m 12 b;
-        day-first = leb-true 1 d first;
-        day-last = leb-true d (daysIn y m) last;
-      })))
+pub on-calendar : (y m d : ℕ) → inCalendar (on y m d) ≡ true → OnCalendar y m d
+on-calendar y m d h =
+    and-ways (leb 1 m && leb m 12 && leb 1 d) (leb d (daysIn y m)) h (λ f last.
+    and-ways (leb 1 m && leb m 12) (leb 1 d) f (λ g first.
+    and-ways (leb 1 m) (leb m 12) g (λ a b. record {
+      month-first = leb-true 1 m a;
+      month-last = leb-true m 12 b;
+      day-first = leb-true 1 d first;
+      day-last = leb-true d (daysIn y m) last;
+    })))
 
-  -- ---- the day before: of the same month, the last of the month before, or that of the year before
-  before-day : 1 < d → dayBefore (on y m d) ≡ on y m (d - 1)
-  unfolding dayBefore
-  before-day h = rw (lt-ltb 1 d h)
+-- ---- the day before: of the same month, the last of the month before, or that of the year before
+before-day : (y m d : ℕ) → 1 < d → dayBefore (on y m d) ≡ on y m (d - 1)
+unfolding dayBefore
+before-day y m d h = rw (lt-ltb 1 d h)
 
 before-month : (y m : ℕ) → 1 < m → dayBefore (on y m 1) ≡ on y (m - 1) (daysIn y (m - 1))
 unfolding dayBefore
@@ -58,11 +56,14 @@ after-year y m d h k = rw (le-ltb d (daysIn y m) h, le-ltb m 12 k)
 pub before-after : (y m d : ℕ) → inCalendar (on y m d) ≡ true → dayBefore (dayAfter (on y m d)) ≡ on y m d
 before-after y m d h =
     by-test (ltb d (daysIn y m))
-    (λ a. ap dayBefore (after-day y m d (ltb-true d (daysIn y m) a)) ∙ before-day y m (d + 1) (omega (arith, c .day-first)) ∙ ap (on y m) (omega arith))
+    (λ a. ap dayBefore (after-day y m d (ltb-true d (daysIn y m) a)) ∙ before-day y m (d + 1) (omega (arith, c .day-first)) ∙ same)
     (λ a. last (omega (arith, c .day-last, ltb-false d (daysIn y m) a)))
   where
     c : OnCalendar y m d
     c = on-calendar y m d h
+
+    same : on y m (d + 1 - 1) ≡ on y m d
+    same = ap (on y m) (omega arith)
 
     last : d ≡ daysIn y m → dayBefore (dayAfter (on y m d)) ≡ on y m d
     last e =
@@ -96,19 +97,15 @@ eve y m d h = by-test (ltb 1 d) (λ a. later (ltb-true 1 d a)) (λ a. first (ome
     c : OnCalendar y m d
     c = on-calendar y m d h
 
-    -- no month goes on behind its last day
+    -- no month k goes on behind its last day l
+    past : (k l : ℕ) → daysIn y k ≡ l → 1 < d → (eqb m k && eqb (d - 1) l) ≡ false
+    past k l e a =
+        by-test (eqb m k)
+        (λ t. rw t (ne-eqb (d - 1) l (λ f. let last = subst (λ (j : ℕ). d ≤ daysIn y j) (eqb-true m k t) (c .day-last) in omega (arith, last, e))))
+        (λ f. rw f)
+
     later : 1 < d → endsHalf (dayBefore (on y m d)) ≡ (eqb d 1 && (eqb m 1 || eqb m 7))
-    later a = rw (before-day y m d a, ne-eqb d 1 (λ e. omega arith))
-        (by-test (endsHalf (on y m (d - 1)))
-        (λ t. ⊎-elim
-        (λ f. and-ways (eqb m 6) (eqb (d - 1) 30) f (λ p q.
-        let l : d ≤ 30 = subst (λ (k : ℕ). d ≤ daysIn y k) (eqb-true m 6 p) (c .day-last) in
-        absurd (omega (arith, l, eqb-true (d - 1) 30 q))))
-        (λ f. and-ways (eqb m 12) (eqb (d - 1) 31) f (λ p q.
-        let l : d ≤ 31 = subst (λ (k : ℕ). d ≤ daysIn y k) (eqb-true m 12 p) (c .day-last) in
-        absurd (omega (arith, l, eqb-true (d - 1) 31 q))))
-        (or-true (eqb m 6 && eqb (d - 1) 30) (eqb m 12 && eqb (d - 1) 31) t))
-        (λ f. f))
+    later a = rw (before-day y m d a, ne-eqb d 1 (λ e. omega arith), past 6 30 refl a, past 12 31 refl a)
 
     first : d ≡ 1 → endsHalf (dayBefore (on y m d)) ≡ (eqb d 1 && (eqb m 1 || eqb m 7))
     first e = rw e (firsts y m (c .month-first) (c .month-last))

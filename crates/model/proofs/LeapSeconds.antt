@@ -3,8 +3,8 @@ use Prim.Native.Nat.{ℕ, _+_, _≤_, _<_}
 use mathlib.Core.Path.{_≡_, refl, sym, _∙_}
 use mathlib.Core.Logic.{_⊎_, inl, inr, ⊎-elim, _↔_}
 use mathlib.Core.Bool.{Bool, true, false, _&&_}
-use native.Mathlib.Omega.{arith}
 use mathlib.Core.List.{List}
+use native.Mathlib.Omega.{arith}
 use lib.Dec.{leb, ltb, eqb}
 use lib.ListN.{length}
 use borrow.Author.Tests.{eqb-true, eqb-false, ne-eqb, leb-true, le-leb, lt-leb, ltb-true, ltb-false}
@@ -27,7 +27,10 @@ offset-less c z = both (λ (n : ℕ). n < 1440) (isOffset c z)
 
 -- how far a zone is behind UTC, and a day more, is less than two days, and never nothing
 pub behind-range : (z : List ℕ) → (0 < behindUtc z) × (behindUtc z < 2880)
-behind-range z = (omega (arith, offset-less 0x2B z), omega (arith, offset-less 0x2D z))
+behind-range z =
+    let a = offset-less 0x2B z in
+    let b = offset-less 0x2D z in
+    (omega (arith, a, b), omega (arith, a, b))
 
 module _ (x : Day) (n : ℕ) where
   -- the moved time n is 23:59 on 30 June or 31 December
@@ -47,7 +50,9 @@ module _ (x : Day) (n : ℕ) where
   -- it is another minute
   pub off-minute : n < 4319 → (n ≡ 1439 → ⊥) → (n ≡ 2879 → ⊥) → leaps ≡ false
   off-minute h f g =
-      rw (ne-eqb (utcMinute n) 1439 (λ e. by-test (ltb n 1440) (λ t. f (omega (arith, e, ltb-true n 1440 t))) (λ t. g (omega (arith, e, ltb-false n 1440 t)))))
+      rw (ne-eqb (utcMinute n) 1439 (λ e. by-test (ltb n 1440)
+      (λ t. f (omega (arith, e, ltb-true n 1440 t)))
+      (λ t. g (omega (arith, e, ltb-false n 1440 t)))))
 
   -- ---- 00 to 59 always, 60 in such a minute, more never
   module _ (k : ℕ) where
@@ -63,7 +68,8 @@ module _ (x : Day) (n : ℕ) where
 -- so, of what is written: 23:59 with the offset added, on 30 June or 31 December, or past midnight on the day after
 pub leap-minute : (x : Day) (time : ℕ) (z : List ℕ) → time < 1440
     → (leaps x (time + behindUtc z) ≡ true)
-    ↔ (((endsHalf x ≡ true) × (time + offset 0x2D z ≡ 1439 + offset 0x2B z)) ⊎ ((endsHalf (dayBefore x) ≡ true) × (time + offset 0x2D z + 1 ≡ offset 0x2B z)))
+    ↔ (((endsHalf x ≡ true) × (time + offset 0x2D z ≡ 1439 + offset 0x2B z))
+    ⊎ ((endsHalf (dayBefore x) ≡ true) × (time + offset 0x2D z + 1 ≡ offset 0x2B z)))
 leap-minute x time z a =
     let n = time + behindUtc z in
     let b = offset-less 0x2B z in (

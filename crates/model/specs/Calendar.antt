@@ -11,11 +11,13 @@ isLeap y = eqb (y % 400) 0 || (eqb (y % 4) 0 && not (eqb (y % 100) 0))
 abbrev pub daysIn : ℕ → ℕ → ℕ
 daysIn y m = cond (eqb m 2) (cond (isLeap y) 29 28) (cond (eqb m 4 || eqb m 6 || eqb m 9 || eqb m 11) 30 31)
 
+-- a day of the calendar, `YYYY-MM-DD`
 pub record Day : Type 0 where
   pub year : ℕ
   pub month : ℕ
   pub day : ℕ
 
+-- the day with these numbers
 abbrev pub on : ℕ → ℕ → ℕ → Day
 on y m d = record { year = y; month = m; day = d }
 

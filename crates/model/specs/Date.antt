@@ -62,7 +62,7 @@ isEnd s = (not (eqb (at s 0) 0x2E) || isDigit (at s 1)) && isZone (zoneOf s)
 abbrev pub offset : ℕ → List ℕ → ℕ
 offset c z = cond (isOffset c z) (minutes z 1) 0
 
--- how far a zone is behind UTC, in minutes, and a day more, so that no number is negative: `-hh:mm` is behind, `+hh:mm` ahead
+-- how far a zone is behind UTC, in minutes, and a day of 1440 more, so that no number is negative: `-hh:mm` is behind, `+hh:mm` ahead
 abbrev pub behindUtc : List ℕ → ℕ
 behindUtc z = 1440 + offset 0x2D z - offset 0x2B z
 
@@ -70,10 +70,11 @@ behindUtc z = 1440 + offset 0x2D z - offset 0x2B z
 abbrev pub movedTime : List ℕ → ℕ
 movedTime s = minutes s 11 + behindUtc (zoneOf (drop 19 s))
 
--- where the day x is written and n is the moved time: the day in UTC, and the minute of that day
+-- the day in UTC, where the day x is written and n is the moved time
 unfoldable pub utcDay : Day → ℕ → Day
 utcDay x n = cond (ltb n 1440) (dayBefore x) (cond (ltb n 2880) x (dayAfter x))
 
+-- the minute of that day
 abbrev pub utcMinute : ℕ → ℕ
 utcMinute n = n % 1440
 
