@@ -32,7 +32,7 @@ is-day l h =
     let written = twoDigits l 0 && twoDigits l 2 && eqb (at l 4) 0x2D && twoDigits l 5 && eqb (at l 7) 0x2D && twoDigits l 8 in
     and-ways written (inCalendar (dayOf l)) h (λ _ f. f)
 
--- the number that is read from the end
+-- the number that is read from the end: whether it is one, and how great it is
 end-is : (l : List ℕ) → (endRead l ≡ 0 → ⊥) → (isEnd l ≡ true) × (endRead l ≡ behindUtc (zoneOf l))
 end-is l h = by-test (isEnd l) (λ t. (t, rw t)) (λ f. absurd (h (rw f)))
 
@@ -89,5 +89,5 @@ module _ (s : List ℕ) (d : Date) (t : DayTold s d) where
           module _ (h : b ≡ 0 → ⊥) (r : Bool) where
             pub seconds : ((year : ℕ) → inCalendar (on year m n) ≡ true → r ≡ hasSecond x (on year m n) (l + b)) → r ≡ isDate (characters s)
             seconds has =
-                let u₁ = end-is (drop 19 (characters s)) (λ e₁. h (end ∙ e₁)) in
-                rw (day .0, letter .0, time .0, second .0, u₁ .0, ← second .1, ← day .1, ← time .1, sym (end ∙ u₁ .1)) (has y in-calendar)
+                let told = end-is (drop 19 (characters s)) (λ none. h (end ∙ none)) in
+                rw (day .0, letter .0, time .0, second .0, told .0, ← second .1, ← day .1, ← time .1, sym (end ∙ told .1)) (has y in-calendar)

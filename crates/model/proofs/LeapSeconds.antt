@@ -8,9 +8,10 @@ use native.Mathlib.Omega.{arith}
 use lib.Dec.{leb, ltb, eqb}
 use lib.ListN.{length}
 use borrow.Author.Tests.{eqb-true, eqb-false, ne-eqb, leb-true, le-leb, lt-leb, ltb-true, ltb-false}
-use Rattle.model.specs.Calendar.{Day, dayBefore}
+use Rattle.model.specs.Calendar.{Day, on, inCalendar, dayBefore}
 use Rattle.model.specs.Date.{at, twoDigits, two, isClock, minutes, isOffset, offset, behindUtc, utcDay, utcMinute, endsHalf, isLeapMinute, hasSecond}
 use Rattle.model.proofs.Basics.{and-ways, both, by-test, clash}
+use Rattle.model.proofs.Days.{startsHalf, eve, morrow}
 
 -- "Hours 00 to 23, minutes 00 to 59": a time and an offset have less than a day
 pub clock-less : (s : List ℕ) (i : ℕ) → isClock s i ≡ true → minutes s i < 1440
@@ -80,3 +81,18 @@ leap-minute x time z a =
           (λ g. clash (leaps x n) h (off-minute x n (omega (arith, a, behind-range z .1)) (eqb-false n 1439 f) (eqb-false n 2879 g)))),
       λ w. ⊎-elim (λ u. on-day x n (omega (arith, u .1, b)) ∙ u .0) (λ u. on-eve x n (omega (arith, u .1, b)) ∙ u .0) w,
     )
+
+-- and of the minute after, in UTC: it is 00:00 on 1 July or 1 January
+pub leap-next : (y m d n : ℕ) → inCalendar (on y m d) ≡ true → n < 4319
+    → leaps (on y m d) n ≡ (eqb (utcMinute (n + 1)) 0 && startsHalf (utcDay (on y m d) (n + 1)))
+unfolding utcDay
+leap-next y m d n h k =
+    by-test (eqb n 1439)
+    (λ t. let e = eqb-true n 1439 t in on-eve (on y m d) n e ∙ eve y m d h ∙ rw e refl)
+    (λ f. by-test (eqb n 2879)
+    (λ t. let e = eqb-true n 2879 t in on-day (on y m d) n e ∙ morrow y m d h ∙ rw e refl)
+    (λ g.
+    let none = ne-eqb (utcMinute (n + 1)) 0 (λ e. by-test (ltb n 1440)
+    (λ t. eqb-false n 1439 f (omega (arith, e, ltb-true n 1440 t)))
+    (λ t. eqb-false n 2879 g (omega (arith, e, ltb-false n 1440 t)))) in
+    off-minute (on y m d) n k (eqb-false n 1439 f) (eqb-false n 2879 g) ∙ rw none refl))
