@@ -73,13 +73,14 @@ pub leap-minute : (x : Day) (time : ℕ) (z : List ℕ) → time < 1440
     ⊎ ((endsHalf (dayBefore x) ≡ true) × (time + offset 0x2D z + 1 ≡ offset 0x2B z)))
 leap-minute x time z a =
     let n = time + behindUtc z in
-    let b = offset-less 0x2B z in (
+    let b = offset-less 0x2B z in
+    let c = offset-less 0x2D z in (
       λ h. by-test (eqb n 1439)
-          (λ t. let e = eqb-true n 1439 t in inr (sym (on-eve x n e) ∙ h, omega (arith, e, b)))
+          (λ t. let e = eqb-true n 1439 t in inr (sym (on-eve x n e) ∙ h, omega (arith, e, b, c)))
           (λ f. by-test (eqb n 2879)
-          (λ t. let e = eqb-true n 2879 t in inl (sym (on-day x n e) ∙ h, omega (arith, e, b)))
+          (λ t. let e = eqb-true n 2879 t in inl (sym (on-day x n e) ∙ h, omega (arith, e, b, c)))
           (λ g. clash (leaps x n) h (off-minute x n (omega (arith, a, behind-range z .1)) (eqb-false n 1439 f) (eqb-false n 2879 g)))),
-      λ w. ⊎-elim (λ u. on-day x n (omega (arith, u .1, b)) ∙ u .0) (λ u. on-eve x n (omega (arith, u .1, b)) ∙ u .0) w,
+      λ w. ⊎-elim (λ u. on-day x n (omega (arith, u .1, b, c)) ∙ u .0) (λ u. on-eve x n (omega (arith, u .1, b, c)) ∙ u .0) w,
     )
 
 -- and of the minute after, in UTC: it is 00:00 on 1 July or 1 January
