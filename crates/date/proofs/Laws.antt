@@ -1,17 +1,16 @@
 -- A date, on plain values: its day d, its letter f, its time g, its second a and its end b, one behind the other.
 use mathlib.Core.Path.{_≡_, sym, ap, subst, _∙_}
-use mathlib.Core.Bool.{Bool, true, false, _&&_}
+use mathlib.Core.Bool.{Bool, true, false}
 use mathlib.Core.List.{List}
 use Prim.Native.Nat.{ℕ, _+_, _<_}
 use native.Mathlib.Omega.{arith}
 use mir.Syntax.{w32}
 use mir.Val.{Fits}
 use lib.ListN.{drop}
-use lib.Dec.{eqb}
 use Rattle.model.specs.Calendar.{Day, on, inCalendar}
-use Rattle.model.specs.Date.{at, twoDigits, dayOf, isDay, isEnd, zoneOf, behindUtc, hasSecond, isDate}
-use Rattle.model.proofs.Basics.{and-ways, both, by-test}
-use Rattle.model.proofs.LeapSeconds.{clock-less, behind-range}
+use Rattle.model.specs.Date.{at, isEnd, zoneOf, behindUtc, hasSecond, isDate}
+use Rattle.model.proofs.Basics.{both, by-test}
+use Rattle.model.proofs.LeapSeconds.{clock-less, day-in, behind-range}
 use Rattle.chars.specs.Strings.{charsAt, characters}
 use Rattle.date.specs.declared.walk.Number.{Number}
 use Rattle.date.specs.declared.walk.Number.the-variants.{Read, Wrong}
@@ -25,12 +24,6 @@ use Rattle.date.specs.Endings.{endRead}
 use Rattle.date.specs.Walk.{DayTold, EitherTold, ClockTold, MarkedTold}
 use Rattle.date.proofs.walk.Laws.{Either, Marked}
 use Rattle.date.proofs.fields.Laws.{Clock}
-
--- the calendar has the day of a date
-is-day : (l : List ℕ) → isDay l ≡ true → inCalendar (dayOf l) ≡ true
-is-day l h =
-    let written = twoDigits l 0 && twoDigits l 2 && eqb (at l 4) 0x2D && twoDigits l 5 && eqb (at l 7) 0x2D && twoDigits l 8 in
-    and-ways written (inCalendar (dayOf l)) h (λ _ f. f)
 
 -- the number that is read from the end: whether it is one, and how great it is
 end-is : (l : List ℕ) → (endRead l ≡ 0 → ⊥) → (isEnd l ≡ true) × (endRead l ≡ behindUtc (zoneOf l))
@@ -51,7 +44,7 @@ module _ (s : List ℕ) (d : Date) (t : DayTold s d) where
     day = rw p at t
 
     in-calendar : inCalendar (on y m n) ≡ true
-    in-calendar = subst (λ (x : Day). inCalendar x ≡ true) (sym (day .1)) (is-day (characters s) (day .0))
+    in-calendar = subst (λ (x : Day). inCalendar x ≡ true) (sym (day .1)) (day-in (characters s) (day .0))
 
     pub no-letter : f ≡ Nothing → false ≡ isDate (characters s)
     no-letter q = rw (day .0, rw q at (u (characters s) 10 (day .2)))

@@ -29,8 +29,8 @@ fn starts_half(month: u32, day: u32) -> bool
     }
 }
 
-// Whether a moved time is 23:59 on 30 June or 31 December. It is counted from the start of the day before the written one, and no zone
-// is a day from UTC: so it is 23:59 of the day before, of the written day, or of neither.
+// Whether a moved time is 23:59 on 30 June or 31 December. It is counted in minutes from the start of the day before the written one,
+// and no zone is a day from UTC, so that it is at most 1439 + 2879: it is 23:59 of the day before, of the written day, or of neither.
 fn is_leap_minute(month: u32, day: u32, moved: u32) -> bool
     requires { ⌜ moved < 4319 ⌝ }
     ensures { λ r. ⌜ ((year : ℕ) → inCalendar (on year month day) ≡ true → r ≡ isLeapMinute (utcDay (on year month day) moved) (utcMinute moved)) ⌝ }

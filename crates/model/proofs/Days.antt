@@ -9,6 +9,7 @@ use Rattle.model.specs.Calendar.{Day, on, isLeap, daysIn, inCalendar, da
 use Rattle.model.specs.Date.{endsHalf}
 use Rattle.model.proofs.Basics.{and-ways, both, by-test}
 
+-- the bounds of a day of the calendar
 pub record OnCalendar (y m d : ℕ) : Type 0 where
   pub month-first : 1 ≤ m
   pub month-last : m ≤ 12
@@ -94,7 +95,7 @@ firsts y m lo hi = by-test (ltb 1 m) (λ a. later (ltb-true 1 m a)) (λ a. janua
     january : m ≡ 1 → endsHalf (dayBefore (on y m 1)) ≡ (eqb m 1 || eqb m 7)
     january e = rw (e, before-year y) refl
 
--- the days after 30 June and 31 December are 1 July and 1 January
+-- the days before 1 July and 1 January are 30 June and 31 December
 pub eve : (y m d : ℕ) → inCalendar (on y m d) ≡ true → endsHalf (dayBefore (on y m d)) ≡ startsHalf (on y m d)
 eve y m d h = by-test (ltb 1 d) (λ a. later (ltb-true 1 d a)) (λ a. first (omega (arith, c .day-first, ltb-false 1 d a)))
   where
@@ -114,6 +115,7 @@ eve y m d h = by-test (ltb 1 d) (λ a. later (ltb-true 1 d a)) (λ a. first (ome
     first : d ≡ 1 → endsHalf (dayBefore (on y m d)) ≡ startsHalf (on y m d)
     first e = rw e (firsts y m (c .month-first) (c .month-last))
 
+-- and the days after those are these
 pub morrow : (y m d : ℕ) → inCalendar (on y m d) ≡ true → endsHalf (on y m d) ≡ startsHalf (dayAfter (on y m d))
 morrow y m d h =
     let x = dayAfter (on y m d) in

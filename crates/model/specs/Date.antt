@@ -29,7 +29,7 @@ abbrev pub isDay : List ℕ → Bool
 isDay s =
     twoDigits s 0 && twoDigits s 2 && eqb (at s 4) 0x2D && twoDigits s 5 && eqb (at s 7) 0x2D && twoDigits s 8 && inCalendar (dayOf s)
 
--- `hh:mm` from i: "Hours 00 to 23, minutes 00 to 59", of the time and of the offset
+-- `hh:mm` from i, of the time ("Hours 00 to 23, minutes and seconds 00 to 59") and of the offset ("hours 00 to 23, minutes 00 to 59")
 abbrev pub isClock : List ℕ → ℕ → Bool
 isClock s i = twoDigits s i && eqb (at s (i + 2)) 0x3A && twoDigits s (i + 3) && leb (two s i) 23 && leb (two s (i + 3)) 59
 
@@ -90,8 +90,11 @@ isLeapMinute x n = eqb n (60 * 23 + 59) && endsHalf x
 abbrev pub hasSecond : ℕ → Day → ℕ → Bool
 hasSecond k x n = leb k 59 || (eqb k 60 && isLeapMinute (utcDay x n) (utcMinute n))
 
--- "`YYYY-MM-DD`, `T` or `t`, `hh:mm:ss`", then its end
+-- "`YYYY-MM-DD`, `T` or `t`, `hh:mm:ss`", then its end; any two digits as seconds
+abbrev pub isWritten : List ℕ → Bool
+isWritten s =
+    isDay s && (eqb (at s 10) 0x54 || eqb (at s 10) 0x74) && isClock s 11 && eqb (at s 16) 0x3A && twoDigits s 17 && isEnd (drop 19 s)
+
+-- "a string that is a date by the rules under Dates", as 02, L2 changes them
 abbrev pub isDate : List ℕ → Bool
-isDate s =
-    isDay s && (eqb (at s 10) 0x54 || eqb (at s 10) 0x74)
-    && isClock s 11 && eqb (at s 16) 0x3A && twoDigits s 17 && isEnd (drop 19 s) && hasSecond (two s 17) (dayOf s) (movedTime s)
+isDate s = isWritten s && hasSecond (two s 17) (dayOf s) (movedTime s)

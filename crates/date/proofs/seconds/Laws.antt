@@ -9,7 +9,7 @@ use borrow.Author.Tests.{ne-eqb}
 use Rattle.model.specs.Calendar.{on, inCalendar, dayBefore}
 use Rattle.model.specs.Date.{endsHalf, hasSecond}
 use Rattle.model.proofs.Days.{eve}
-use Rattle.model.proofs.LeapSeconds.{leaps, on-eve, on-day, off-minute, seconds-59, second-60, seconds-61}
+use Rattle.model.proofs.LeapSeconds.{leaps, on-eve, on-day, off-minute, has-59, has-60, has-61}
 
 -- ---- 30 June and 31 December, and the days after
 
@@ -54,10 +54,10 @@ module _ (m d n : ℕ) where
 
   module _ (k y : ℕ) (h : inCalendar (on y m d) ≡ true) where
     pub to-59 : k ≤ 59 → true ≡ hasSecond k (on y m d) n
-    to-59 a = sym (seconds-59 (on y m d) n k a)
+    to-59 a = sym (has-59 (on y m d) n k a)
 
     pub from-61 : 60 < k → false ≡ hasSecond k (on y m d) n
-    from-61 a = sym (seconds-61 (on y m d) n k a)
+    from-61 a = sym (has-61 (on y m d) n k a)
 
     pub at-60 : 59 < k → k ≤ 60 → (r : Bool) → Leaps r → r ≡ hasSecond k (on y m d) n
-    at-60 a b r f = f y h ∙ sym (second-60 (on y m d) n k (omega arith))
+    at-60 a b r f = f y h ∙ sym (has-60 (on y m d) n k (omega arith))
