@@ -4,9 +4,10 @@ use Prim.Native.String.{String}
 use mathlib.Core.Path.{_≡_, refl}
 use mathlib.Core.Bool.{Bool, true, not, _&&_}
 use mathlib.Core.List.{List, [], _∷_}
+use lib.IntN.{pos, negℤ}
 use Rattle.model.specs.Text.{text}
-use Rattle.model.specs.Calendar.{Day, on, dayBefore, dayAfter}
-use Rattle.model.specs.Date.{dayOf, movedTime, utcDay, utcMinute, isDate}
+use Rattle.model.specs.Calendar.{Day, on, dayBefore, dayAfter, firstMonths, firstYears, dayCount, dayNumber}
+use Rattle.model.specs.Date.{dayOf, movedTime, utcDay, utcMinute, isDate, moment}
 
 -- every one is a date; none is
 abbrev dates : List String → Bool
@@ -181,3 +182,21 @@ utc-times = (
   (refl, refl),
   (refl, refl),
 )
+
+-- 02, L3: "`1969-12-31T23:59:59Z` and `1969-12-31T23:59:59.5Z` are -1, `1970-01-01T00:00:00+01:00` is -3600"
+moments :
+    (moment (text "1969-12-31T23:59:59Z") ≡ negℤ (pos 1))
+    × (moment (text "1969-12-31T23:59:59.5Z") ≡ negℤ (pos 1))
+    × (moment (text "1970-01-01T00:00:00+01:00") ≡ negℤ (pos 3600))
+    × (moment (text "1970-01-01T00:00:00-01:00") ≡ pos 3600)
+    × (moment (text "2016-12-31T23:59:60Z") ≡ pos 1483228800)
+    × (moment (text "2017-01-01T00:00:00Z") ≡ pos 1483228800)
+unfolding moment dayNumber dayCount firstYears firstMonths
+moments = (refl, refl, refl, refl, refl, refl)
+
+-- the first and the last of all
+first-last :
+    (moment (text "0000-01-01T00:00:00+23:59") ≡ negℤ (pos 62167305540))
+    × (moment (text "9999-12-31T23:59:59-23:59") ≡ pos 253402387139)
+unfolding moment dayNumber dayCount firstYears firstMonths
+first-last = (refl, refl)

@@ -1,7 +1,8 @@
--- The Gregorian calendar (01, "Dates").
-use Prim.Native.Nat.{ℕ, _+_, _-_, _%_}
+-- The Gregorian calendar (01, "Dates"), and its days by number (02, L3).
+use Prim.Native.Nat.{ℕ, zero, suc, _+_, _-_, _%_}
 use mathlib.Core.Bool.{Bool, not, cond, _&&_, _||_}
 use lib.Dec.{leb, ltb, eqb}
+use lib.IntN.{ℤ, pos, _-ℤ_}
 
 -- "29 February in years divisible by 4 but not 100, or by 400"
 abbrev pub isLeap : ℕ → Bool
@@ -37,3 +38,21 @@ unfoldable pub dayAfter : Day → Day
 dayAfter x =
     cond (ltb (x .day) (daysIn (x .year) (x .month))) (on (x .year) (x .month) (x .day + 1))
     (cond (ltb (x .month) 12) (on (x .year) (x .month + 1) 1) (on (x .year + 1) 1 1))
+
+-- the days of the first m months of a year
+unfoldable pub firstMonths : ℕ → ℕ → ℕ
+firstMonths y zero = 0
+firstMonths y (suc m) = firstMonths y m + daysIn y (suc m)
+
+-- the days of the years from 0000 to the one before a year
+unfoldable pub firstYears : ℕ → ℕ
+firstYears zero = 0
+firstYears (suc y) = firstYears y + firstMonths y 12
+
+-- the days from 0000-01-01 to a day
+unfoldable pub dayCount : Day → ℕ
+dayCount x = firstYears (x .year) + firstMonths (x .year) (x .month - 1) + (x .day - 1)
+
+-- the days from 1970-01-01 to a day, negative before it
+unfoldable pub dayNumber : Day → ℤ
+dayNumber x = pos (dayCount x) -ℤ pos (dayCount (on 1970 1 1))

@@ -1,12 +1,13 @@
--- Dates (01, "Dates"; 02, L2; RFC 3339, section 5.6), on the characters of a string after unescaping.
+-- Dates (01, "Dates"; 02, L2 and L3; RFC 3339, section 5.6), on the characters of a string after unescaping.
 use Prim.Native.Nat.{ℕ, _+_, _*_, _-_, _%_}
 use mathlib.Core.Bool.{Bool, not, cond, _&&_, _||_}
 use mathlib.Core.List.{List, [], _∷_}
 use lib.Dec.{leb, ltb, eqb}
+use lib.IntN.{ℤ, pos, _+ℤ_, _-ℤ_, _*ℤ_}
 use lib.ListN.{length, getD, drop}
 use Rattle.model.specs.Text.{text, same}
 use Rattle.model.specs.Value.{isDigit}
-use Rattle.model.specs.Calendar.{Day, on, inCalendar, dayBefore, dayAfter}
+use Rattle.model.specs.Calendar.{Day, on, inCalendar, dayBefore, dayAfter, dayNumber}
 
 -- the character at i; 0 past the end
 abbrev pub at : List ℕ → ℕ → ℕ
@@ -98,3 +99,8 @@ isWritten s =
 -- "a string that is a date by the rules under Dates", as 02, L2 changes them
 abbrev pub isDate : List ℕ → Bool
 isDate s = isWritten s && hasSecond (two s 17) (dayOf s) (movedTime s)
+
+-- "whole seconds from 1970-01-01T00:00:00Z, negative before it, leap seconds not counted and second 60 counted as the second after 59; a
+-- written fraction is left out" (02, L3); the moved time is counted from the start of the day before the written one
+unfoldable pub moment : List ℕ → ℤ
+moment s = pos 86400 *ℤ (dayNumber (dayOf s) -ℤ pos 1) +ℤ pos (60 * movedTime s + two s 17)
