@@ -1,4 +1,3 @@
 pub mod Examples
 pub mod Facts
 pub mod Runs
-pub mod Span

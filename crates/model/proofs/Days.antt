@@ -41,7 +41,7 @@ unfolding dayBefore
 before-year y = refl
 
 -- ---- the day after: of the same month, the first of the next, or that of the next year
-after-ways : (P : Day → Type 0) (y m d : ℕ) → OnCalendar y m d
+pub after-ways : (P : Day → Type 0) (y m d : ℕ) → OnCalendar y m d
     → (d < daysIn y m → P (on y m (d + 1)))
     → (d ≡ daysIn y m → m < 12 → P (on y (m + 1) 1))
     → (d ≡ daysIn y m → m ≡ 12 → P (on (y + 1) 1 1))

@@ -1,5 +1,8 @@
 pub mod Basics
+pub mod Span
+pub mod Differences
 pub mod Days
+pub mod DayNumbers
 pub mod LeapSeconds
 pub mod Integers
 pub mod Deciding

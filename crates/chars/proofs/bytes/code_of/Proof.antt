@@ -1,7 +1,7 @@
 -- `chars::bytes::code_of` meets its contract: each range by the rule computed over it.
 use native.Mathlib.Omega.{arith}
 use Rattle.chars.specs.Bytes.{codeOf}
-use Rattle.chars.proofs.Span.{agree}
+use Rattle.model.proofs.Span.{agree}
 use Rattle.chars.proofs.bytes.code_of.Statement.{statement}
 use Rattle.chars.proofs.bytes.code_of.Tie as tie
 

@@ -3,7 +3,7 @@ use Prim.Native.Nat.{_-_}
 use native.Mathlib.Omega.{arith}
 use borrow.Author.Needs.{needs}
 use Rattle.chars.specs.Bytes.{digit}
-use Rattle.chars.proofs.Span.{agree}
+use Rattle.model.proofs.Span.{agree}
 use Rattle.chars.proofs.bytes.digit.Statement.{statement}
 use Rattle.chars.proofs.bytes.digit.Tie as tie
 
