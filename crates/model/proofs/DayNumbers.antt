@@ -13,7 +13,7 @@ use borrow.Author.Tests.{eqb-true, eqb-false, ltb-true, ltb-false}
 use Rattle.model.specs.Calendar.{Day, on, isLeap, daysIn, inCalendar, dayAfter, firstMonths, firstYears, dayCount, dayNumber}
 use Rattle.model.proofs.Basics.{by-test}
 use Rattle.model.proofs.Span.{agree}
-use Rattle.model.proofs.Differences.{sub-back, sub-lt, sub-same}
+use Rattle.model.proofs.Differences.{sub-lt, sub-same}
 use Rattle.model.proofs.Days.{OnCalendar, on-calendar, after-ways}
 
 -- ---- months and years
@@ -166,9 +166,7 @@ rises x z h (inr (e, inr (f, g))) = rw (← e, ← f) (omega (arith, on-calendar
 
 pub later-day : (x z : Day) → inCalendar x ≡ true → inCalendar z ≡ true → Before x z → ltZ (dayNumber x) (dayNumber z) ≡ true
 unfolding dayNumber
-later-day x z h _ b =
-    let c = dayCount (on 1970 1 1) in
-    rw (sub-back (dayCount x) c, sub-back (dayCount z) c) (sub-lt (dayCount x) (dayCount z) c (rises x z h b))
+later-day x z h _ b = sub-lt (dayCount x) (dayCount z) (dayCount (on 1970 1 1)) (rises x z h b)
 
 -- of two days one is before the other, or they are the same
 by-order : {A : Type 0} (x z : Day) → (Before x z → A) → (x ≡ z → A) → (Before z x → A) → A

@@ -4,6 +4,7 @@ pub mod Differences
 pub mod Days
 pub mod DayNumbers
 pub mod LeapSeconds
+pub mod Moments
 pub mod Integers
 pub mod Deciding
 pub mod Formed
