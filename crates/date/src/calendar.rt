@@ -2,7 +2,7 @@
 ghost use mathlib.Core.Path.{_≡_};
 ghost use Rattle.model.specs.Calendar.{isLeap, daysIn, on, inCalendar};
 
-fn is_leap(year: u32) -> bool
+pub fn is_leap(year: u32) -> bool
     ensures { λ r. ⌜ r ≡ isLeap year ⌝ }
 {
     if year % 400 == 0 {

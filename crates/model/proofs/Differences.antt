@@ -9,7 +9,7 @@ use lib.Signed.{ltZ, leZ}
 use borrow.Author.Tests.{ltb-true, ltb-false, lt-ltb, le-leb}
 use Rattle.model.proofs.Basics.{both}
 
-sub-back : (a b : ℕ) → pos a -ℤ pos b ≡ subℕ a b
+pub sub-back : (a b : ℕ) → pos a -ℤ pos b ≡ subℕ a b
 sub-back a zero = both (λ (z : ℤ). pos (a + 0) ≡ z) (ltb a 0) (λ e. absurd (omega (arith, ltb-true a 0 e))) (λ _. ap pos (omega arith))
 sub-back a (suc b) = refl
 

@@ -2,43 +2,18 @@
 use Prim.Native.Nat.{ℕ, _+_, _≤_, _<_}
 use mathlib.Core.Path.{_≡_, refl, sym, ap, _∙_}
 use mathlib.Core.Logic.{_⊎_, inl, inr, ⊎-elim, _↔_}
-use mathlib.Core.Bool.{Bool, true, false, _&&_, _||_}
+use mathlib.Core.Bool.{Bool, true, false, _&&_}
 use mathlib.Core.List.{List}
 use native.Mathlib.Omega.{arith}
-use lib.Dec.{leb, ltb, eqb}
-use lib.ListN.{length, drop}
-use borrow.Author.Tests.{eqb-true, eqb-false, ne-eqb, leb-true, le-leb, lt-leb, ltb-true, ltb-false}
+use lib.Dec.{ltb, eqb}
+use lib.ListN.{drop}
+use borrow.Author.Tests.{eqb-true, eqb-false, ne-eqb, le-leb, lt-leb, ltb-true, ltb-false}
 use Rattle.model.specs.Calendar.{Day, on, inCalendar, dayBefore}
-use Rattle.model.specs.Date.{at, twoDigits, two, dayOf, isDay, isClock, minutes, isOffset, zoneOf, isEnd, offset, behindUtc, movedTime}
+use Rattle.model.specs.Date.{two, dayOf, minutes, zoneOf, offset, behindUtc, movedTime}
 use Rattle.model.specs.Date.{utcDay, utcMinute, endsHalf, isLeapMinute, hasSecond, isWritten, isDate}
-use Rattle.model.proofs.Basics.{and-ways, both, by-test, clash}
+use Rattle.model.proofs.Basics.{by-test, clash}
 use Rattle.model.proofs.Days.{startsHalf, eve, morrow}
-
--- a time and an offset have less than a day
-pub clock-less : (s : List ℕ) (i : ℕ) → isClock s i ≡ true → minutes s i < 1440
-clock-less s i h =
-    let digits = twoDigits s i && eqb (at s (i + 2)) 0x3A && twoDigits s (i + 3) in
-    and-ways (digits && leb (two s i) 23) (leb (two s (i + 3)) 59) h (λ f m.
-    and-ways digits (leb (two s i) 23) f (λ _ n. omega (arith, leb-true (two s i) 23 n, leb-true (two s (i + 3)) 59 m)))
-
-pub offset-less : (c : ℕ) (z : List ℕ) → offset c z < 1440
-offset-less c z = both (λ (n : ℕ). n < 1440) (isOffset c z)
-    (λ h. and-ways (eqb (at z 0) c && isClock z 1) (eqb (length z) 6) h (λ f _.
-    and-ways (eqb (at z 0) c) (isClock z 1) f (λ _ k. clock-less z 1 k)))
-    (λ _. omega arith)
-
--- the calendar has the day that is written
-pub day-in : (s : List ℕ) → isDay s ≡ true → inCalendar (dayOf s) ≡ true
-day-in s h =
-    let digits = twoDigits s 0 && twoDigits s 2 && eqb (at s 4) 0x2D && twoDigits s 5 && eqb (at s 7) 0x2D && twoDigits s 8 in
-    and-ways digits (inCalendar (dayOf s)) h (λ _ f. f)
-
--- how far a zone is behind UTC, and a day more, is less than two days, and never nothing
-pub behind-range : (z : List ℕ) → (0 < behindUtc z) × (behindUtc z < 2880)
-behind-range z =
-    let a = offset-less 0x2B z in
-    let b = offset-less 0x2D z in
-    (omega (arith, a, b), omega (arith, a, b))
+use Rattle.model.proofs.Fields.{clock-less, offset-less, day-in, behind-range, day-time}
 
 module _ (x : Day) (n : ℕ) where
   -- the moved time n is 23:59 on 30 June or 31 December
@@ -72,6 +47,9 @@ module _ (x : Day) (n : ℕ) where
 
     pub has-61 : 60 < k → hasSecond k x n ≡ false
     has-61 h = rw (lt-leb k 59 (omega arith), ne-eqb k 60 (λ e. omega arith))
+
+    pub has-most : hasSecond k x n ≡ true → k ≤ 60
+    has-most h = by-test (ltb 60 k) (λ t. clash (hasSecond k x n) h (has-61 (ltb-true 60 k t))) (λ f. ltb-false 60 k f)
 
 -- by the written day and time: 23:59 with the offset added, on 30 June or 31 December, or past midnight on the day after
 leap-minute : (x : Day) (time : ℕ) (z : List ℕ) → time < 1440
@@ -107,21 +85,10 @@ leap-next y m d n h k =
 
 -- ---- dates
 
--- what is written like a date has a day of the calendar, and its moved time is short
+-- the moved time of what is written like a date is short
 module _ (s : List ℕ) (w : isWritten s ≡ true) where
-  abbrev letter : Bool
-  letter = eqb (at s 10) 0x54 || eqb (at s 10) 0x74
-
-  day-time : (isDay s ≡ true) × (isClock s 11 ≡ true)
-  day-time =
-      and-ways (isDay s && letter && isClock s 11 && eqb (at s 16) 0x3A && twoDigits s 17) (isEnd (drop 19 s)) w (λ a _.
-      and-ways (isDay s && letter && isClock s 11 && eqb (at s 16) 0x3A) (twoDigits s 17) a (λ b _.
-      and-ways (isDay s && letter && isClock s 11) (eqb (at s 16) 0x3A) b (λ c _.
-      and-ways (isDay s && letter) (isClock s 11) c (λ d time.
-      and-ways (isDay s) letter d (λ day _. (day, time))))))
-
   moved-short : movedTime s < 4319
-  moved-short = omega (arith, clock-less s 11 (day-time .1), behind-range (zoneOf (drop 19 s)))
+  moved-short = omega (arith, clock-less s 11 (day-time s w .1), behind-range (zoneOf (drop 19 s)))
 
   by-second : isDate s ≡ hasSecond (two s 17) (dayOf s) (movedTime s)
   by-second = ap (λ (b : Bool). b && hasSecond (two s 17) (dayOf s) (movedTime s)) w
@@ -144,11 +111,11 @@ module _ (s : List ℕ) (w : isWritten s ≡ true) where
         ↔ (((endsHalf (dayOf s) ≡ true) × (minutes s 11 + offset 0x2D z ≡ 1439 + offset 0x2B z))
         ⊎ ((endsHalf (dayBefore (dayOf s)) ≡ true) × (minutes s 11 + offset 0x2D z + 1 ≡ offset 0x2B z)))
     second-60-written =
-        let l = leap-minute (dayOf s) (minutes s 11) (zoneOf (drop 19 s)) (clock-less s 11 (day-time .1)) in
+        let l = leap-minute (dayOf s) (minutes s 11) (zoneOf (drop 19 s)) (clock-less s 11 (day-time s w .1)) in
         (λ h. l .0 (sym second-60 ∙ h), λ u. second-60 ∙ l .1 u)
 
     -- the same by the minute after
     pub second-60-next : let n = movedTime s + 1 in isDate s ≡ (eqb (utcMinute n) 0 && startsHalf (utcDay (dayOf s) n))
     second-60-next =
         let x = dayOf s in
-        second-60 ∙ leap-next (x .year) (x .month) (x .day) (movedTime s) (day-in s (day-time .0)) moved-short
+        second-60 ∙ leap-next (x .year) (x .month) (x .day) (movedTime s) (day-in s (day-time s w .0)) moved-short

@@ -14,7 +14,7 @@ use Rattle.model.specs.Text.{same}
 use Rattle.model.specs.Value.{isDigit}
 use Rattle.model.specs.Date.{at, minutes, isClock, isOffset, isZone, afterDigits, offset}
 use Rattle.model.proofs.Basics.{and-ways, by-test, clash, or-true, or-false as neither}
-use Rattle.model.proofs.LeapSeconds.{offset-less}
+use Rattle.model.proofs.Fields.{digit-range, offset-less}
 use Rattle.chars.proofs.Facts.{in-text}
 use Rattle.chars.specs.Strings.{charsAt}
 use Rattle.date.specs.declared.walk.Number.{Number}
@@ -25,7 +25,7 @@ use Rattle.date.specs.declared.fields.Time.{Time}
 use Rattle.date.specs.declared.fields.Time.the-variants.{At, NoTime}
 use Rattle.date.specs.Walk.{Stands, DigitTold, MarkTold, EitherTold, ClockTold}
 use Rattle.date.specs.Endings.{offsetRead, zoneRead, endRead}
-use Rattle.date.proofs.walk.Laws.{Digit, Mark, Either, at-drop, digit-range}
+use Rattle.date.proofs.walk.Laws.{Digit, Mark, Either, at-drop}
 use Rattle.date.proofs.fields.Laws.{Clock}
 
 -- ---- offsets

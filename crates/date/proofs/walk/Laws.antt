@@ -11,7 +11,7 @@ use lib.ListN.{length, drop, length-drop}
 use lib.Seq.{getD-drop, drop-drop}
 use lib.Dec.{leb, eqb}
 use denote.Enum.Declared.{tagOf}
-use borrow.Author.Tests.{le-leb, lt-leb, eq-eqb, ne-eqb, leb-true}
+use borrow.Author.Tests.{le-leb, lt-leb, eq-eqb, ne-eqb}
 use Rattle.model.specs.Value.{isDigit}
 use Rattle.model.specs.Date.{at}
 use Rattle.chars.specs.declared.characters.Step.{Step}
@@ -20,7 +20,7 @@ use Rattle.chars.specs.Bytes.{byteAt}
 use Rattle.chars.specs.Characters.{charAt}
 use Rattle.chars.specs.Strings.{charsAt}
 use Rattle.chars.proofs.characters.Step.{the-type}
-use Rattle.model.proofs.Basics.{and-ways}
+use Rattle.model.proofs.Fields.{digit-range, two-range}
 use Rattle.chars.proofs.Facts.{chars-char, chars-none, digit-read}
 use Rattle.date.specs.declared.walk.Number.{Number}
 use Rattle.date.specs.declared.walk.Number.the-variants.{Read, Wrong}
@@ -107,10 +107,7 @@ Either s i a b r = (l : List ℕ) (k : ℕ) → Stands s i l k → EitherTold s 
 abbrev pub Marked : List ℕ → ℕ → ℕ → Number → Type 0
 Marked s i c r = (l : List ℕ) (k : ℕ) → Stands s i l k → MarkedTold s l k c r
 
--- a digit is within its bounds
-pub digit-range : (x : ℕ) → isDigit x ≡ true → (0x30 ≤ x) × (x ≤ 0x39)
-digit-range x t = and-ways (leb 0x30 x) (leb x 0x39) t (λ a b. (leb-true 0x30 x a, leb-true x 0x39 b))
-
+-- one digit and two are small numbers
 pub digit-most : {a : Number} {v j : ℕ} → a ≡ Read v j → (s : List ℕ) (i : ℕ) → Digit s i a → v ≤ 9
 digit-most q s i t =
     let l = charsAt s i in
@@ -121,7 +118,7 @@ pub two-most : {a : Number} {v j : ℕ} → a ≡ Read v j → (s : List ℕ) (i
 two-most q s i t =
     let l = charsAt s i in
     let x = subst (Two s i) q t l 0 refl in
-    and-ways (isDigit (at l 0)) (isDigit (at l 1)) (x .0) (λ a b. omega (arith, digit-range (at l 0) a, digit-range (at l 1) b, x .1))
+    omega (arith, two-range l 0 (x .0), x .1)
 
 -- two digits: a and, behind it, b
 module _ (s : List ℕ) (i : ℕ) (a : Number) (t : Digit s i a) where
