@@ -1,4 +1,4 @@
-// What a program needs around a service: its command, the files that its arguments name, and the line that it prints.
+// What a program needs around a service: its command, the files that its arguments name, and the lines that it prints.
 mod commands;
 mod files;
 mod lines;
@@ -10,4 +10,5 @@ pub use files::Loaded;
 pub use files::load;
 pub use lines::answer;
 pub use lines::no_file;
+pub use lines::three;
 pub use saving::save;

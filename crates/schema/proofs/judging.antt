@@ -1,4 +1,5 @@
 pub mod Codes
+pub mod DateTimes
 pub mod Fields
 pub mod First
 pub mod OtherKinds
@@ -7,4 +8,5 @@ pub mod Looking
 pub mod Meeting
 pub mod Order
 pub mod TypeNames
+pub mod Visits
 pub mod Values

@@ -1,10 +1,11 @@
--- Check (01, "Three services"): the answer, both tables, and when it is 0.
+-- Check (01, "Three services"; 02, L3): the answer, both tables, when it is 0, and the dates.
 use Prim.Native.Nat.{ℕ}
 use mathlib.Core.Path.{_≡_}
 use mathlib.Core.Bool.{cond}
 use mathlib.Core.Option.{some}
-use mathlib.Core.List.{List}
+use mathlib.Core.List.{List, []}
 use lib.Dec.{leb, eqb}
+use lib.IntN.{ℤ}
 use Rattle.model.specs.Definition.{Def, definitionOf}
 use Rattle.model.specs.Meeting.{Meets}
 use Rattle.tokens.specs.Parse.{Parse, refused, parsed}
@@ -14,7 +15,8 @@ use Rattle.syntax.specs.Spelling.{valueOf}
 use Rattle.syntax.specs.Answer.{documentLimits, readWithin, answer, rowsIn, tableOf}
 use Rattle.syntax.specs.declared.answers.Answer.{Answer}
 use Rattle.definitions.specs.Definitions.{Located}
-use Rattle.schema.specs.Judging.{mismatchAt}
+use Rattle.schema.specs.Judging.{visits, mismatchAt}
+use Rattle.schema.specs.Dates.{moments}
 use Rattle.schema.specs.declared.judging.Mismatch.{Mismatch}
 use Rattle.definitions.specs.Accepting.{readSchema, Accepted, not-accepted, accepted, accept, HasRoom}
 
@@ -58,3 +60,15 @@ pub record Meeting (w₁ w₂ : ℕ) (document schema : List ℕ) : Type 0 where
   pub definition : Def
   pub defines : definitionOf (valueOf schema schema-tree) ≡ some definition
   pub meets : Meets definition (valueOf document tree)
+
+-- ---- the dates
+
+abbrev pub judgedMoments : Accepted → List ℕ → Parse Node → List ℤ
+judgedMoments (not-accepted a) s o = []
+judgedMoments (accepted d) s (refused c p) = []
+judgedMoments (accepted d) s (parsed n e) = moments s (visits s d n)
+
+-- "on 0": the moments of the values that were judged as DateTime; none "on every other code"
+unfoldable pub checkMoments : ℕ → ℕ → List ℕ → List ℕ → List ℤ
+checkMoments w₁ w₂ document schema =
+    cond (eqb (checkAnswer w₁ w₂ document schema .code) 0) (judgedMoments (accept 2 w₂ schema) document (readDocument document)) []

@@ -1,9 +1,9 @@
--- The first mismatch of a value with a definition, with places (01, "Definitions": "First misfit"). 01's term is misfit.
-use Prim.Native.Nat.{ℕ, _+_}
-use mathlib.Core.Path.{_≡_}
+-- What is judged of a value under a definition, in which order, and the first mismatch, with places (01, "Definitions": "First misfit"). 01's
+-- term is misfit.
+use Prim.Native.Nat.{ℕ}
 use mathlib.Core.Bool.{Bool, true, false, cond}
 use mathlib.Core.Option.{Option, none, some}
-use mathlib.Core.List.{List}
+use mathlib.Core.List.{List, [], _∷_, _++_}
 use lib.Dec.{eqb}
 use Rattle.model.specs.Definition.{Named, JSON, Schema, Float, Integer, String, Boolean, DateTime, definitionOf}
 use Rattle.model.specs.Date.{isDate}
@@ -12,11 +12,8 @@ use Rattle.tokens.specs.Tokens.{Kind, Null, False, True, Whole, Fractional, Quo
 use Rattle.syntax.specs.Tree.{Node, scalar, array, object, Nodes, none as no-node, more, Members, no-member, member, placeOf}
 use Rattle.syntax.specs.Grammar.{nameOf}
 use Rattle.syntax.specs.Spelling.{valueOf}
-use Rattle.syntax.specs.Holding.{word}
-use Rattle.rows.specs.Records.{InTable, Rowed, ObjectRow, PartRow}
-use Rattle.rows.specs.Finding.{lookup, Finds}
-use Rattle.definitions.specs.Definitions.{Located, named-at, array-at, map-at, object-at, LocatedFields, no-field, field, fine, definitionAt}
-use Rattle.definitions.specs.Definitions.{fieldsAt}
+use Rattle.rows.specs.Finding.{lookup}
+use Rattle.definitions.specs.Definitions.{Located, named-at, array-at, map-at, object-at, LocatedFields, no-field, field}
 use Rattle.schema.specs.declared.judging.Mismatch.{Mismatch}
 
 -- code, place in the document, other in the schema
@@ -27,7 +24,7 @@ mismatch code place other = record { code = code; place = place; other = other }
 abbrev pub nothing : Mismatch
 nothing = mismatch 0 0 0
 
--- what is judged first counts
+-- the first of two counts
 abbrev pub orElse : Mismatch → Mismatch → Mismatch
 orElse a b = cond (eqb (a .code) 0) b a
 
@@ -98,112 +95,85 @@ namedAt s p String n = unless (ifScalar isString n) (placeOf n) p
 namedAt s p Boolean n = unless (ifScalar isBoolean n) (placeOf n) p
 namedAt s p DateTime n = dateAt s p n
 
--- "A value's kind is judged before what it holds."
-abbrev pub ifArray : Node → ℕ → (Nodes → Mismatch) → Mismatch
-ifArray (scalar k f e) p j = mismatch 20 f p
-ifArray (array f e ns) p j = j ns
-ifArray (object f e ms) p j = mismatch 20 f p
+-- an array, an object
+abbrev pub isArray : Node → Bool
+isArray (scalar k f e) = false
+isArray (array f e ns) = true
+isArray (object f e ms) = false
 
-abbrev pub ifObject : Node → ℕ → (Members → Mismatch) → Mismatch
-ifObject (scalar k f e) p j = mismatch 20 f p
-ifObject (array f e ns) p j = mismatch 20 f p
-ifObject (object f e ms) p j = j ms
+abbrev pub isObject : Node → Bool
+isObject (scalar k f e) = false
+isObject (array f e ns) = false
+isObject (object f e ms) = true
+
+-- ---- what is judged
+
+-- a value, by the definition that it stands under; or a required name that is missing: the brace of the object, and the opening quote of the name
+-- in the schema
+pub data Visit : Type 0 where
+  value-by : Located → Node → Visit
+  missing-name : ℕ → ℕ → Visit
+
+-- "A value's kind is judged before what it holds": code 20, and under DateTime 22; code 21 for a name
+abbrev pub mismatchOf : List ℕ → Visit → Mismatch
+mismatchOf s (value-by (named-at p t) n) = namedAt s p t n
+mismatchOf s (value-by (array-at p d) n) = unless (isArray n) (placeOf n) p
+mismatchOf s (value-by (map-at p d) n) = unless (isObject n) (placeOf n) p
+mismatchOf s (value-by (object-at p r o) n) = unless (isObject n) (placeOf n) p
+mismatchOf s (missing-name brace q) = mismatch 21 brace q
+
+-- what is judged in a value that is an array, or an object
+abbrev pub inArray : Node → (Nodes → List Visit) → List Visit
+inArray (scalar k f e) v = []
+inArray (array f e ns) v = v ns
+inArray (object f e ms) v = []
+
+abbrev pub inObject : Node → (Members → List Visit) → List Visit
+inObject (scalar k f e) v = []
+inObject (array f e ns) v = []
+inObject (object f e ms) v = v ms
 
 -- "Array by element, Map by member, in document order"
-abbrev pub firstElement : (Node → Mismatch) → Nodes → Mismatch
-firstElement j no-node = nothing
-firstElement j (more n ns) = orElse (j n) (firstElement j ns)
+abbrev pub eachElement : (Node → List Visit) → Nodes → List Visit
+eachElement v no-node = []
+eachElement v (more n ns) = v n ++ eachElement v ns
 
-abbrev pub firstMember : (Node → Mismatch) → Members → Mismatch
-firstMember j no-member = nothing
-firstMember j (member f e n ms) = orElse (j n) (firstMember j ms)
+abbrev pub eachMember : (Node → List Visit) → Members → List Visit
+eachMember v no-member = []
+eachMember v (member f e n ms) = v n ++ eachMember v ms
 
-abbrev pub judged : Option Node → Mismatch → (Node → Mismatch) → Mismatch
-judged none absent j = absent
-judged (some n) absent j = j n
+-- what is judged by a name: the value under it, where it is present
+abbrev pub atName : Option Node → List Visit → (Node → List Visit) → List Visit
+atName none absent v = absent
+atName (some n) absent v = v n
 
--- code 21, for a required name that is missing, at the object's brace and by the opening quote of the name in the schema
-abbrev pub missing : ℕ → ℕ → Mismatch
-missing brace q = mismatch 21 brace q
+-- a required name is missing in the object at a brace; an optional one may be absent
+abbrev pub missing : ℕ → ℕ → List Visit
+missing brace q = missing-name brace q ∷ []
 
--- an optional name may be absent
-abbrev pub skipped : ℕ → Mismatch
-skipped q = nothing
+abbrev pub skipped : ℕ → List Visit
+skipped q = []
 
 abbrev mutual
-  -- the first mismatch of a value of the text s
-  pub mismatchAt : List ℕ → Located → Node → Mismatch
-  mismatchAt s (named-at p t) n = namedAt s p t n
-  mismatchAt s (array-at p d) n = ifArray n p (λ ns. firstElement (λ m. mismatchAt s d m) ns)
-  mismatchAt s (map-at p d) n = ifObject n p (λ ms. firstMember (λ m. mismatchAt s d m) ms)
-  mismatchAt s (object-at p r o) n = ifObject n p (λ ms. orElse (fieldsMismatch s (missing (placeOf n)) r ms) (fieldsMismatch s skipped o ms))
+  -- all that is judged of a value of the text s under a definition, in this order
+  pub visits : List ℕ → Located → Node → List Visit
+  visits s (named-at p t) n = value-by (named-at p t) n ∷ []
+  visits s (array-at p d) n = value-by (array-at p d) n ∷ inArray n (λ ns. eachElement (λ m. visits s d m) ns)
+  visits s (map-at p d) n = value-by (map-at p d) n ∷ inObject n (λ ms. eachMember (λ m. visits s d m) ms)
+  visits s (object-at p r o) n =
+      value-by (object-at p r o) n ∷ inObject n (λ ms. fieldVisits s (missing (placeOf n)) r ms ++ fieldVisits s skipped o ms)
 
   -- "names of "required" in schema order, each missing (21) or judged; then those of "optional" that are present, in schema order"
-  pub fieldsMismatch : List ℕ → (ℕ → Mismatch) → LocatedFields → Members → Mismatch
-  fieldsMismatch s absent no-field ms = nothing
-  fieldsMismatch s absent (field q n d fs) ms = orElse (judged (lookup s n ms) (absent q) (λ m. mismatchAt s d m)) (fieldsMismatch s absent fs ms)
+  pub fieldVisits : List ℕ → (ℕ → List Visit) → LocatedFields → Members → List Visit
+  fieldVisits s absent no-field ms = []
+  fieldVisits s absent (field q k d fs) ms = atName (lookup s k ms) (absent q) (λ m. visits s d m) ++ fieldVisits s absent fs ms
 
--- ---- for private contracts: what the walkers over a value and a definition are given, and what they answer
+-- ---- the first that fails
 
--- a value at row r₁ of the document's table, and a definition at row r₂ of the schema's
-pub record Judgeable (s₁ s₂ t₁ t₂ : List ℕ) (r₁ r₂ : ℕ) : Type 0 where
-  pub document : Rowed s₁ t₁ r₁
-  pub schema : Rowed s₂ t₂ r₂
-  pub definition : Located
-  pub defines : definitionAt s₂ (schema .tree) ≡ fine definition
+abbrev pub firstMismatch : List ℕ → List Visit → Mismatch
+firstMismatch s [] = nothing
+firstMismatch s (v ∷ vs) = orElse (mismatchOf s v) (firstMismatch s vs)
 
--- the definition is one under Array, under Map, or under Object
-pub record ArrayJudgeable (s₁ s₂ t₁ t₂ : List ℕ) (r₁ r₂ : ℕ) : Type 0 where
-  pub given : Judgeable s₁ s₂ t₁ t₂ r₁ r₂
-  pub place : ℕ
-  pub element : Located
-  pub is : given .definition ≡ array-at place element
-
-pub record MapJudgeable (s₁ s₂ t₁ t₂ : List ℕ) (r₁ r₂ : ℕ) : Type 0 where
-  pub given : Judgeable s₁ s₂ t₁ t₂ r₁ r₂
-  pub place : ℕ
-  pub element : Located
-  pub is : given .definition ≡ map-at place element
-
-pub record BodyJudgeable (s₁ s₂ t₁ t₂ : List ℕ) (r₁ r₂ : ℕ) : Type 0 where
-  pub given : Judgeable s₁ s₂ t₁ t₂ r₁ r₂
-  pub place : ℕ
-  pub required : LocatedFields
-  pub optional : LocatedFields
-  pub is : given .definition ≡ object-at place required optional
-
-pub record Judged (s₁ s₂ t₁ t₂ : List ℕ) (r₁ r₂ : ℕ) (m : Mismatch) : Type 0 where
-  pub tells : (j : Judgeable s₁ s₂ t₁ t₂ r₁ r₂) → m ≡ mismatchAt s₁ (j .definition) (j .document .tree)
-
--- a value against DateTime, whose definition's first byte is p
-pub record JudgedDate (s t : List ℕ) (r p : ℕ) (m : Mismatch) : Type 0 where
-  pub tells : (w : Rowed s t r) → m ≡ dateAt s p (w .tree)
-
--- an object at row r₁ of the document's table, and the fields at row r₂ of the schema's
-pub record FieldsJudgeable (s₁ s₂ t₁ t₂ : List ℕ) (r₁ r₂ : ℕ) : Type 0 where
-  pub document : ObjectRow s₁ t₁ r₁
-  pub schema : PartRow s₂ t₂ r₂
-  pub fields : LocatedFields
-  pub defines : fieldsAt s₂ (schema .members) ≡ fine fields
-
--- what a name that is absent counts as
-abbrev pub absence : Bool → ℕ → ℕ → Mismatch
-absence true brace q = missing brace q
-absence false brace q = skipped q
-
-pub record FieldsJudged (s₁ s₂ t₁ t₂ : List ℕ) (r₁ r₂ : ℕ) (required : Bool) (m : Mismatch) : Type 0 where
-  pub tells : (j : FieldsJudgeable s₁ s₂ t₁ t₂ r₁ r₂) → m ≡ fieldsMismatch s₁ (absence required (j .document .first)) (j .fields) (j .document .members)
-
--- one field, its name at row r₂: v was found for it in the object at row r₁
-pub record FieldJudgeable (s₁ s₂ t₁ t₂ : List ℕ) (r₁ v r₂ : ℕ) : Type 0 where
-  pub document : ObjectRow s₁ t₁ r₁
-  pub finds : Finds s₁ t₁ r₁ (nameOf s₂ (word t₂ r₂ 1) (word t₂ r₂ 2)) v
-  pub name : InTable t₂ r₂
-  pub schema : Rowed s₂ t₂ (r₂ + 1)
-  pub definition : Located
-  pub defines : definitionAt s₂ (schema .tree) ≡ fine definition
-
-pub record FieldJudged (s₁ s₂ t₁ t₂ : List ℕ) (r₁ v r₂ : ℕ) (required : Bool) (m : Mismatch) : Type 0 where
-  pub tells : (j : FieldJudgeable s₁ s₂ t₁ t₂ r₁ v r₂)
-      → m ≡ judged (lookup s₁ (nameOf s₂ (word t₂ r₂ 1) (word t₂ r₂ 2)) (j .document .members))
-      (absence required (j .document .first) (word t₂ r₂ 1)) (mismatchAt s₁ (j .definition))
+-- the first mismatch of a value of the text s
+abbrev pub mismatchAt : List ℕ → Located → Node → Mismatch
+mismatchAt s d n = firstMismatch s (visits s d n)

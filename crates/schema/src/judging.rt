@@ -1,5 +1,7 @@
-// The first mismatch of a document's value with a definition (01, "Definitions": "First misfit").
-use date::is_date;
+// The first mismatch of a document's value with a definition (01, "Definitions": "First misfit"). The dates are counted on the way.
+use crate::dates::count;
+use date::Moment;
+use date::moment_of;
 use definitions::Generic;
 use definitions::TypeName;
 use definitions::define;
@@ -17,8 +19,8 @@ ghost use mathlib.Core.Path.{_≡_};
 ghost use Rattle.syntax.specs.Holding.{word as wordOf};
 ghost use Rattle.rows.specs.Records.{Rowed};
 ghost use Rattle.schema.specs.Judging.{mismatch};
-ghost use Rattle.schema.specs.Judging.{Judgeable, Judged, JudgedDate, ArrayJudgeable, MapJudgeable, BodyJudgeable, FieldsJudgeable, FieldsJudged};
-ghost use Rattle.schema.specs.Judging.{FieldJudgeable, FieldJudged};
+ghost use Rattle.schema.specs.Walks.{Judgeable, Judged, JudgedDate, ArrayJudgeable, MapJudgeable, BodyJudgeable, FieldsJudgeable, FieldsJudged};
+ghost use Rattle.schema.specs.Walks.{FieldJudgeable, FieldJudged};
 
 // Codes 20 to 22 with the place in the document and the other in the schema; code 0 where there is none.
 pub struct Mismatch {
@@ -46,18 +48,25 @@ impl Mismatch {
 }
 
 // The value at a row against DateTime, whose definition begins at `other`.
-fn judge_date(document: &[u8], rows1: &[u32], at: usize, other: u32) -> Mismatch
+fn judge_date(
+    document: &[u8],
+    rows1: &[u32],
+    at: usize,
+    other: u32,
+    dates: &mut [i64; 3],
+) -> Mismatch
     requires { ⌜ Rowed (now document) (now rows1) at ⌝ }
-    ensures { λ r. ⌜ JudgedDate (now (document .entry)) (now (rows1 .entry)) at other r ⌝ }
+    ensures { λ r. ⌜ JudgedDate (now (document .entry)) (now (rows1 .entry)) at other r (now (dates .entry)) (now (dates .exit)) ⌝ }
 {
     let value = row_at(rows1, at);
     if value.kind != 6 {
         return Mismatch::at(20, value.first, other);
     }
-    if is_date(between(document, value.first, value.end)) {
-        return Mismatch::none();
-    }
-    Mismatch::at(22, value.first, other)
+    let Moment::At(moment) = moment_of(between(document, value.first, value.end)) else {
+        return Mismatch::at(22, value.first, other);
+    };
+    count(dates, moment);
+    Mismatch::none()
 }
 
 // The value at row `at` of the document against the type name at row `by` of the schema.
@@ -68,17 +77,18 @@ fn judge_named(
     rows2: &[u32],
     at: usize,
     by: usize,
+    dates: &mut [i64; 3],
 ) -> Mismatch
     requires { ⌜ Judgeable (now document) (now schema) (now rows1) (now rows2) at by ⌝ }
     requires { ⌜ wordOf (now rows2) by 0 ≡ 6 ⌝ }
-    ensures { λ r. ⌜ Judged (now (document .entry)) (now (schema .entry)) (now (rows1 .entry)) (now (rows2 .entry)) at by r ⌝ }
+    ensures { λ r. ⌜ Judged (now (document .entry)) (now (schema .entry)) (now (rows1 .entry)) (now (rows2 .entry)) at by r (now (dates .entry)) (now (dates .exit)) ⌝ }
 {
     let value = row_at(rows1, at);
     let definition = row_at(rows2, by);
     let name = named_type(between(schema, definition.first, definition.end));
     let fits = takes(name, value.kind);
     match name {
-        TypeName::DateTime => judge_date(document, rows1, at, definition.first),
+        TypeName::DateTime => judge_date(document, rows1, at, definition.first, dates),
         TypeName::Schema => {
             if define(document, rows1, at).code == 0 {
                 return Mismatch::none();
@@ -102,18 +112,19 @@ pub fn judge(
     rows2: &[u32],
     at: usize,
     by: usize,
+    dates: &mut [i64; 3],
 ) -> Mismatch
     requires { ⌜ Judgeable (now document) (now schema) (now rows1) (now rows2) at by ⌝ }
-    ensures { λ r. ⌜ Judged (now (document .entry)) (now (schema .entry)) (now (rows1 .entry)) (now (rows2 .entry)) at by r ⌝ }
+    ensures { λ r. ⌜ Judged (now (document .entry)) (now (schema .entry)) (now (rows1 .entry)) (now (rows2 .entry)) at by r (now (dates .entry)) (now (dates .exit)) ⌝ }
 {
     if row_at(rows2, by).kind == 6 {
-        return judge_named(document, schema, rows1, rows2, at, by);
+        return judge_named(document, schema, rows1, rows2, at, by, dates);
     }
     let name = row_at(rows2, by + 1);
     match generic_name(between(schema, name.first, name.end)) {
-        Generic::Array => judge_array(document, schema, rows1, rows2, at, by),
-        Generic::Map => judge_map(document, schema, rows1, rows2, at, by),
-        _ => judge_object(document, schema, rows1, rows2, at, by),
+        Generic::Array => judge_array(document, schema, rows1, rows2, at, by, dates),
+        Generic::Map => judge_map(document, schema, rows1, rows2, at, by, dates),
+        _ => judge_object(document, schema, rows1, rows2, at, by, dates),
     }
 }
 
@@ -125,9 +136,10 @@ fn judge_array(
     rows2: &[u32],
     at: usize,
     by: usize,
+    dates: &mut [i64; 3],
 ) -> Mismatch
     requires { ⌜ ArrayJudgeable (now document) (now schema) (now rows1) (now rows2) at by ⌝ }
-    ensures { λ r. ⌜ Judged (now (document .entry)) (now (schema .entry)) (now (rows1 .entry)) (now (rows2 .entry)) at by r ⌝ }
+    ensures { λ r. ⌜ Judged (now (document .entry)) (now (schema .entry)) (now (rows1 .entry)) (now (rows2 .entry)) at by r (now (dates .entry)) (now (dates .exit)) ⌝ }
 {
     let value = row_at(rows1, at);
     if value.kind != 7 {
@@ -136,7 +148,7 @@ fn judge_array(
     let mut left = value.children;
     let mut row = at + 1;
     while left > 0 {
-        let found = judge(document, schema, rows1, rows2, row, by + 2);
+        let found = judge(document, schema, rows1, rows2, row, by + 2, dates);
         if found.code != 0 {
             return found;
         }
@@ -154,9 +166,10 @@ fn judge_map(
     rows2: &[u32],
     at: usize,
     by: usize,
+    dates: &mut [i64; 3],
 ) -> Mismatch
     requires { ⌜ MapJudgeable (now document) (now schema) (now rows1) (now rows2) at by ⌝ }
-    ensures { λ r. ⌜ Judged (now (document .entry)) (now (schema .entry)) (now (rows1 .entry)) (now (rows2 .entry)) at by r ⌝ }
+    ensures { λ r. ⌜ Judged (now (document .entry)) (now (schema .entry)) (now (rows1 .entry)) (now (rows2 .entry)) at by r (now (dates .entry)) (now (dates .exit)) ⌝ }
 {
     let value = row_at(rows1, at);
     if value.kind != 8 {
@@ -165,7 +178,7 @@ fn judge_map(
     let mut left = value.children;
     let mut row = at + 2;
     while left > 0 {
-        let found = judge(document, schema, rows1, rows2, row, by + 2);
+        let found = judge(document, schema, rows1, rows2, row, by + 2, dates);
         if found.code != 0 {
             return found;
         }
@@ -183,9 +196,10 @@ fn judge_object(
     rows2: &[u32],
     at: usize,
     by: usize,
+    dates: &mut [i64; 3],
 ) -> Mismatch
     requires { ⌜ BodyJudgeable (now document) (now schema) (now rows1) (now rows2) at by ⌝ }
-    ensures { λ r. ⌜ Judged (now (document .entry)) (now (schema .entry)) (now (rows1 .entry)) (now (rows2 .entry)) at by r ⌝ }
+    ensures { λ r. ⌜ Judged (now (document .entry)) (now (schema .entry)) (now (rows1 .entry)) (now (rows2 .entry)) at by r (now (dates .entry)) (now (dates .exit)) ⌝ }
 {
     let value = row_at(rows1, at);
     if value.kind != 8 {
@@ -194,17 +208,17 @@ fn judge_object(
     let required = find(schema, rows2, by + 2, b"required");
     let optional = find(schema, rows2, by + 2, b"optional");
     if value.children < FEW_NAMES {
-        let found = judge_fields(document, schema, rows1, rows2, at, required, true);
+        let found = judge_fields(document, schema, rows1, rows2, at, required, true, dates);
         if found.code != 0 {
             return found;
         }
-        return judge_fields(document, schema, rows1, rows2, at, optional, false);
+        return judge_fields(document, schema, rows1, rows2, at, optional, false, dates);
     }
-    let found = judge_wide(document, schema, rows1, rows2, at, required, true);
+    let found = judge_wide(document, schema, rows1, rows2, at, required, true, dates);
     if found.code != 0 {
         return found;
     }
-    judge_wide(document, schema, rows1, rows2, at, optional, false)
+    judge_wide(document, schema, rows1, rows2, at, optional, false, dates)
 }
 
 // The object at row `at` of the document against the fields at row `fields` of the schema, in their order; row 0 has none.
@@ -216,9 +230,10 @@ fn judge_fields(
     at: usize,
     fields: usize,
     required: bool,
+    dates: &mut [i64; 3],
 ) -> Mismatch
     requires { ⌜ FieldsJudgeable (now document) (now schema) (now rows1) (now rows2) at fields ⌝ }
-    ensures { λ r. ⌜ FieldsJudged (now (document .entry)) (now (schema .entry)) (now (rows1 .entry)) (now (rows2 .entry)) at fields required r ⌝ }
+    ensures { λ r. ⌜ FieldsJudged (now (document .entry)) (now (schema .entry)) (now (rows1 .entry)) (now (rows2 .entry)) at fields required r (now (dates .entry)) (now (dates .exit)) ⌝ }
 {
     if fields == 0 {
         return Mismatch::none();
@@ -228,7 +243,7 @@ fn judge_fields(
     while left > 0 {
         let name = row_at(rows2, row);
         let value = find(document, rows1, at, between(schema, name.first, name.end));
-        let found = judge_field(document, schema, rows1, rows2, at, value, row, required);
+        let found = judge_field(document, schema, rows1, rows2, at, value, row, required, dates);
         if found.code != 0 {
             return found;
         }
@@ -248,16 +263,17 @@ fn judge_wide(
     at: usize,
     fields: usize,
     required: bool,
+    dates: &mut [i64; 3],
 ) -> Mismatch
     requires { ⌜ FieldsJudgeable (now document) (now schema) (now rows1) (now rows2) at fields ⌝ }
-    ensures { λ r. ⌜ FieldsJudged (now (document .entry)) (now (schema .entry)) (now (rows1 .entry)) (now (rows2 .entry)) at fields required r ⌝ }
+    ensures { λ r. ⌜ FieldsJudged (now (document .entry)) (now (schema .entry)) (now (rows1 .entry)) (now (rows2 .entry)) at fields required r (now (dates .entry)) (now (dates .exit)) ⌝ }
 {
     if fields == 0 {
         return Mismatch::none();
     }
     let names = row_at(rows2, fields).children;
     if !wide(row_at(rows1, at).children, names) {
-        return judge_fields(document, schema, rows1, rows2, at, fields, required);
+        return judge_fields(document, schema, rows1, rows2, at, fields, required, dates);
     }
     let mut values = [0usize; MOST_NAMES];
     match_names(document, rows1, at, schema, rows2, fields, &mut values);
@@ -266,7 +282,7 @@ fn judge_wide(
     let mut row = fields + 1;
     while i < count {
         let value = values[i];
-        let found = judge_field(document, schema, rows1, rows2, at, value, row, required);
+        let found = judge_field(document, schema, rows1, rows2, at, value, row, required, dates);
         if found.code != 0 {
             return found;
         }
@@ -286,12 +302,13 @@ fn judge_field(
     value: usize,
     row: usize,
     required: bool,
+    dates: &mut [i64; 3],
 ) -> Mismatch
     requires { ⌜ FieldJudgeable (now document) (now schema) (now rows1) (now rows2) at value row ⌝ }
-    ensures { λ r. ⌜ FieldJudged (now (document .entry)) (now (schema .entry)) (now (rows1 .entry)) (now (rows2 .entry)) at value row required r ⌝ }
+    ensures { λ r. ⌜ FieldJudged (now (document .entry)) (now (schema .entry)) (now (rows1 .entry)) (now (rows2 .entry)) at value row required r (now (dates .entry)) (now (dates .exit)) ⌝ }
 {
     if value > 0 {
-        return judge(document, schema, rows1, rows2, value, row + 1);
+        return judge(document, schema, rows1, rows2, value, row + 1, dates);
     }
     if required {
         let brace = row_at(rows1, at).first;

@@ -4,7 +4,8 @@ ghost use mathlib.Core.Logic.{_↔_};
 ghost use lib.ListN.{length};
 ghost use Rattle.syntax.specs.Answer.{documentLimits, readWithin, answerOf, tableOf};
 ghost use Rattle.definitions.specs.Accepting.{readSchema};
-ghost use Rattle.schema.specs.Checking.{checkAnswer, checkTable, Meeting};
+ghost use Rattle.schema.specs.Dates.{datesOf, Spans};
+ghost use Rattle.schema.specs.Checking.{checkAnswer, checkTable, Meeting, checkMoments};
 ghost use Rattle.comparison.specs.Comparing.{Compares, compareTable};
 ghost use Rattle.writer.specs.Compact.{compactAnswer, compactBuffer};
 ghost use Rattle.counterexample.specs.Counterexample.{Promises, tableUnlessShort};
@@ -40,7 +41,28 @@ pub extern "C" fn teleport_check(
     ensures rows2 { λ _. ⌜ now (table2 .exit) ≡ tableOf (now (table2 .entry)) (readSchema (now (schema .entry))) ⌝ }
     ensures meets { λ _. ⌜ (code (now (answer .exit)) ≡ 0) ↔ Meeting (length (now (table1 .entry))) (length (now (table2 .entry))) (now (document .entry)) (now (schema .entry)) ⌝ }
 {
-    *answer = words(schema::check(document, schema, table1, table2));
+    let mut dates = [0i64; 3];
+    *answer = words(schema::check(document, schema, table1, table2, &mut dates));
+}
+
+// Check, and the dates of the document (02, L3): how many, the earliest and the latest.
+#[no_mangle]
+pub extern "C" fn teleport_check_dates(
+    document: &[u8],
+    schema: &[u8],
+    table1: &mut [u32],
+    table2: &mut [u32],
+    answer: &mut [u32; 4],
+    dates: &mut [i64; 3],
+)
+    ensures answers { λ _. ⌜ now (answer .exit) ≡ answerWords (checkAnswer (length (now (table1 .entry))) (length (now (table2 .entry))) (now (document .entry)) (now (schema .entry))) ⌝ }
+    ensures rows1 { λ _. ⌜ now (table1 .exit) ≡ checkTable (now (table1 .entry)) (length (now (table2 .entry))) (now (document .entry)) (now (schema .entry)) ⌝ }
+    ensures rows2 { λ _. ⌜ now (table2 .exit) ≡ tableOf (now (table2 .entry)) (readSchema (now (schema .entry))) ⌝ }
+    ensures meets { λ _. ⌜ (code (now (answer .exit)) ≡ 0) ↔ Meeting (length (now (table1 .entry))) (length (now (table2 .entry))) (now (document .entry)) (now (schema .entry)) ⌝ }
+    ensures dated { λ _. ⌜ now (dates .exit) ≡ datesOf (checkMoments (length (now (table1 .entry))) (length (now (table2 .entry))) (now (document .entry)) (now (schema .entry))) ⌝ }
+    ensures spans { λ _. ⌜ Spans (checkMoments (length (now (table1 .entry))) (length (now (table2 .entry))) (now (document .entry)) (now (schema .entry))) (now (dates .exit)) ⌝ }
+{
+    *answer = words(schema::check(document, schema, table1, table2, dates));
 }
 
 // Compare: a new schema and an old one, with a table for each.

@@ -7,6 +7,7 @@ use console::asks;
 use console::load;
 use console::no_file;
 use console::save;
+use console::three;
 
 // The limit of a document.
 const LIMIT: usize = 65536;
@@ -70,10 +71,39 @@ fn exhibit(new: &[u8], old: &[u8]) {
             return;
         }
         answer(a);
-        answer(schema::check(&buffer[..length], old, &mut table1, &mut table2));
+        let mut dates = [0i64; 3];
+        answer(schema::check(&buffer[..length], old, &mut table1, &mut table2, &mut dates));
         return;
     }
     answer(a);
+}
+
+// `dates DOCUMENT SCHEMA`.
+fn dates() {
+    let mut document = [0u8; TEXT];
+    let Loaded::Bytes(n) = load(2, &mut document) else {
+        no_file();
+        return;
+    };
+    let mut schema = [0u8; TEXT];
+    let Loaded::Bytes(m) = load(3, &mut schema) else {
+        no_file();
+        return;
+    };
+    count_dates(&document[..n], &schema[..m]);
+}
+
+// The same of the two texts. On 0 the second line is how many dates there are, the earliest and the
+// latest.
+fn count_dates(document: &[u8], schema: &[u8]) {
+    let mut table1 = [0u32; TABLE];
+    let mut table2 = [0u32; SCHEMA_TABLE];
+    let mut dates = [0i64; 3];
+    let a = schema::check(document, schema, &mut table1, &mut table2, &mut dates);
+    answer(a);
+    if a.code == 0 {
+        three(dates);
+    }
 }
 
 fn main() {
@@ -81,6 +111,8 @@ fn main() {
         compact();
     } else if asks(b"counterexample", 5) {
         counterexample();
+    } else if asks(b"dates", 4) {
+        dates();
     } else {
         no_file();
     }

@@ -92,7 +92,8 @@ fn check(fields: &[u8]) -> bool {
     let m = second.len;
     let mut table1 = [0u32; TABLE];
     let mut table2 = [0u32; TABLE];
-    lines::answer(schema::check(&document[..n], &schema[..m], &mut table1, &mut table2));
+    let mut dates = [0i64; 3];
+    lines::answer(schema::check(&document[..n], &schema[..m], &mut table1, &mut table2, &mut dates));
     true
 }
 

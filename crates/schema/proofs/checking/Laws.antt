@@ -1,53 +1,79 @@
--- Check on plain values: how its answer and the tables it leaves follow from its steps, which are accepting the schema, reading the document and judging it.
-use Prim.Native.Nat.{ℕ}
+-- Check on plain values: how its answer, the tables it leaves and the dates follow from its steps, which are accepting the schema, reading the document
+-- and judging it.
+use Prim.Native.Nat.{ℕ, _≤_}
 use mathlib.Core.Path.{_≡_, refl, sym, ap, _∙_}
-use mathlib.Core.List.{List}
+use mathlib.Core.List.{List, [], _∷_}
 use mathlib.Core.Logic.{_↔_}
 use mathlib.Core.Bool.{Bool, true, false, cond}
 use native.Mathlib.Omega.{arith}
+use lib.IntN.{ℤ, pos}
 use lib.ListN.{length}
 use lib.Dec.{leb}
 use borrow.Author.Tests.{le-leb, eq-eqb, ne-eqb}
+use Rattle.model.proofs.Formed.{definition-formed}
 use Rattle.tokens.specs.Parse.{Parse, refused, parsed}
 use Rattle.syntax.specs.Tree.{Node}
 use Rattle.syntax.specs.Rows.{size}
+use Rattle.syntax.specs.Spelling.{valueOf}
 use Rattle.syntax.specs.Answer.{documentLimits, schemaLimits, answer, answerOf, rowsIn, tableOf}
 use Rattle.syntax.specs.declared.answers.Answer.{Answer}
-use Rattle.definitions.specs.Definitions.{Located}
-use Rattle.schema.specs.Judging.{mismatchAt, Judgeable, Judged}
-use Rattle.schema.specs.Checking.{readDocument, mismatchAnswer, judgedAs, checkedAs, checkAnswer, tableAfter, checkTable, Meeting}
+use Rattle.syntax.proofs.Theorems.{read-json, read-rows, read-short}
+use Rattle.definitions.specs.Definitions.{Located, bare}
+use Rattle.schema.specs.Judging.{visits, mismatchAt}
+use Rattle.schema.specs.Dates.{moments, earliest, latest, datesOf, Spans}
+use Rattle.schema.specs.Walks.{mostDates, Tallied, Walks, Judgeable, Judged}
+use Rattle.schema.specs.Checking.{readDocument, mismatchAnswer, judgedAs, checkedAs, checkAnswer, tableAfter, checkTable, Meeting, checkMoments}
 use Rattle.definitions.specs.Accepting.{readSchema, Accepted, not-accepted, accepted, acceptAnswer, accept}
 use Rattle.schema.specs.declared.judging.Mismatch.{Mismatch}
-use Rattle.definitions.proofs.Facts.{Takes, Way, accept-way, HasRead, has-read, has-rows}
+use Rattle.definitions.proofs.Facts.{Takes, Way, accept-way, HasRead, has-read, has-rows, defined-plain}
+use Rattle.schema.proofs.dates.Once.{moments-few}
+use Rattle.schema.proofs.dates.Spans.{spans}
 use Rattle.schema.proofs.checking.Zero.{check-zero}
 
 -- ---- what Check promises
 
--- of the answer r and the tables u₁ and u₂ that it leaves, for a document s₁ and a schema s₂ with tables t₁ and t₂
-abbrev pub Promised : List ℕ → List ℕ → List ℕ → List ℕ → Answer → List ℕ → List ℕ → Type 0
-Promised s₁ s₂ t₁ t₂ r u₁ u₂ =
-    (r ≡ checkAnswer (length t₁) (length t₂) s₁ s₂)
-    × ((u₁ ≡ checkTable t₁ (length t₂) s₁ s₂) × ((u₂ ≡ tableOf t₂ (readSchema s₂)) × ((r .code ≡ 0) ↔ Meeting (length t₁) (length t₂) s₁ s₂)))
+abbrev pub noDates : List ℤ
+noDates = pos 0 ∷ pos 0 ∷ pos 0 ∷ []
 
-whole : (s₁ s₂ t₁ t₂ : List ℕ) {r : Answer} {u₁ u₂ : List ℕ} → r ≡ checkAnswer (length t₁) (length t₂) s₁ s₂ → u₁ ≡ checkTable t₁ (length t₂) s₁ s₂
-    → u₂ ≡ tableOf t₂ (readSchema s₂) → Promised s₁ s₂ t₁ t₂ r u₁ u₂
-whole s₁ s₂ t₁ t₂ p x y =
-    let k = ap (λ (b : Answer). b .code) p in
-    let m = check-zero (length t₁) (length t₂) s₁ s₂ in
-    (p, (x, (y, (λ z. m .0 (sym k ∙ z), λ h. k ∙ m .1 h))))
+-- of the answer r, the tables u₁ and u₂ that it leaves and the dates ds, for a document s₁ and a schema s₂ with tables t₁ and t₂
+abbrev pub Promised : List ℕ → List ℕ → List ℕ → List ℕ → Answer → List ℕ → List ℕ → List ℤ → Type 0
+Promised s₁ s₂ t₁ t₂ r u₁ u₂ ds =
+    (r ≡ checkAnswer (length t₁) (length t₂) s₁ s₂)
+    × ((u₁ ≡ checkTable t₁ (length t₂) s₁ s₂)
+    × ((u₂ ≡ tableOf t₂ (readSchema s₂))
+    × (((r .code ≡ 0) ↔ Meeting (length t₁) (length t₂) s₁ s₂)
+    × ((ds ≡ datesOf (checkMoments (length t₁) (length t₂) s₁ s₂)) × Spans (checkMoments (length t₁) (length t₂) s₁ s₂) ds))))
+
+module _ (s₁ s₂ t₁ t₂ : List ℕ) {r : Answer} {u₁ u₂ : List ℕ} (p : r ≡ checkAnswer (length t₁) (length t₂) s₁ s₂)
+    (x : u₁ ≡ checkTable t₁ (length t₂) s₁ s₂) (y : u₂ ≡ tableOf t₂ (readSchema s₂)) where
+  whole : {ds : List ℤ} → ds ≡ datesOf (checkMoments (length t₁) (length t₂) s₁ s₂) → Promised s₁ s₂ t₁ t₂ r u₁ u₂ ds
+  whole e =
+      let k = ap (λ (b : Answer). b .code) p in
+      let m = check-zero (length t₁) (length t₂) s₁ s₂ in
+      (p, (x, (y, ((λ z. m .0 (sym k ∙ z), λ h. k ∙ m .1 h), (e, rw e (spans (checkMoments (length t₁) (length t₂) s₁ s₂)))))))
+
+  -- "all three are 0 [..] on every other code"
+  without-dates : (r .code ≡ 0 → ⊥) → Promised s₁ s₂ t₁ t₂ r u₁ u₂ noDates
+  unfolding checkMoments earliest latest
+  without-dates n = whole (rw (ne-eqb (checkAnswer (length t₁) (length t₂) s₁ s₂ .code) 0 (λ z. n (ap (λ (b : Answer). b .code) p ∙ z))))
 
 -- ---- the schema is not accepted
 
 pub check-unaccepted : (s₁ s₂ t₁ t₂ : List ℕ) {a : Answer} {u₂ : List ℕ} → a ≡ acceptAnswer (accept 2 (length t₂) s₂) → u₂ ≡ tableOf t₂ (readSchema s₂)
-    → (a .code ≡ 0 → ⊥) → Promised s₁ s₂ t₁ t₂ a t₁ u₂
+    → (a .code ≡ 0 → ⊥) → Promised s₁ s₂ t₁ t₂ a t₁ u₂ noDates
 unfolding checkAnswer checkTable
-check-unaccepted s₁ s₂ t₁ t₂ {a} q y n = let x = go (accept 2 (length t₂) s₂) q in whole s₁ s₂ t₁ t₂ (x .0) (x .1) y
+check-unaccepted s₁ s₂ t₁ t₂ {a} q y n = let x = go (accept 2 (length t₂) s₂) q in without-dates s₁ s₂ t₁ t₂ (x .0) (x .1) y n
   where
     go : (x : Accepted) → a ≡ acceptAnswer x → (a ≡ checkedAs x (length t₁) s₁) × (t₁ ≡ tableAfter x t₁ s₁)
     go (not-accepted b) e = (e, refl)
     go (accepted d) e = absurd (n (ap (λ (b : Answer). b .code) e))
 
 -- ---- the schema is accepted, and the document read
+
+-- before the first date
+none : Tallied noDates []
+unfolding earliest latest
+none = record { numbers = refl; first-fits = omega arith; last-fits = omega arith }
 
 -- a document that is refused, or has no room
 unjudged : (d : Located) (w : ℕ) (s : List ℕ) (o : Parse Node) → (answerOf 1 w o .code ≡ 0 → ⊥) → answerOf 1 w o ≡ judgedAs d w s o
@@ -87,12 +113,18 @@ module _ {s₁ s₂ t₁ t₂ : List ℕ} {b : Answer} {u₁ u₂ : List ℕ} (i
   taken = has-accepted s₂ t₂ (sym (ap (λ (c : Answer). c .code) (i .accepts)) ∙ i .zero)
 
   -- the document's answer is Check's, and its table is as Read leaves it
-  promised : {r : Answer} → r ≡ judgedAs (taken .definition) (length t₁) s₁ (readDocument s₁) → Promised s₁ s₂ t₁ t₂ r u₁ u₂
-  unfolding checkAnswer checkTable
-  promised e = let q = taken .accepts in whole s₁ s₂ t₁ t₂ (rw q e) (rw q (i .rows)) (i .table)
+  answers : {r : Answer} → r ≡ judgedAs (taken .definition) (length t₁) s₁ (readDocument s₁) → r ≡ checkAnswer (length t₁) (length t₂) s₁ s₂
+  unfolding checkAnswer
+  answers e = rw (taken .accepts) e
 
-  pub check-unread : (b .code ≡ 0 → ⊥) → Promised s₁ s₂ t₁ t₂ b u₁ u₂
-  check-unread n = promised (i .reads ∙ unjudged (taken .definition) (length t₁) s₁ (readDocument s₁) (λ e. n (ap (λ (c : Answer). c .code) (i .reads) ∙ e)))
+  rows : u₁ ≡ checkTable t₁ (length t₂) s₁ s₂
+  unfolding checkTable
+  rows = rw (taken .accepts) (i .rows)
+
+  pub check-unread : (b .code ≡ 0 → ⊥) → Promised s₁ s₂ t₁ t₂ b u₁ u₂ noDates
+  check-unread n =
+      let e = i .reads ∙ unjudged (taken .definition) (length t₁) s₁ (readDocument s₁) (λ e. n (ap (λ (c : Answer). c .code) (i .reads) ∙ e)) in
+      without-dates s₁ s₂ t₁ t₂ (answers e) rows (i .table) n
 
   module _ (v : b .code ≡ 0) where
     read₁ : HasRead documentLimits s₁ t₁
@@ -108,16 +140,45 @@ module _ {s₁ s₂ t₁ t₂ : List ℕ} {b : Answer} {u₁ u₂ : List ℕ} (i
     pub check-judgeable : Judgeable s₁ s₂ u₁ u₂ 0 0
     check-judgeable = rw (i .rows, i .table) given
 
-    module _ {m : Mismatch} (j : Judged s₁ s₂ u₁ u₂ 0 0 m) where
-      told : m ≡ mismatchAt s₁ (taken .definition) (read₁ .tree)
+    -- the moments of what is judged; a document has no more than `count` counts
+    abbrev found : List ℤ
+    found = moments s₁ (visits s₁ (taken .definition) (read₁ .tree))
+
+    few : length found ≤ mostDates
+    few =
+        let k = taken .takes in
+        let json = read-json _ _ s₂ (k .tree) (k .read .end) (k .read .reads) in
+        let formed = definition-formed (valueOf s₂ (k .tree)) json (bare (taken .definition)) (defined-plain s₂ (k .tree) (taken .definition) (k .defines)) in
+        omega (
+          arith,
+          moments-few s₁ (taken .definition) formed (read₁ .tree),
+          read-rows _ _ s₁ (read₁ .tree) (read₁ .end) (read₁ .reads),
+          read-short _ _ s₁ (read₁ .tree) (read₁ .end) (read₁ .reads),
+        )
+
+    module _ {m : Mismatch} {ds : List ℤ} (j : Judged s₁ s₂ u₁ u₂ 0 0 m noDates ds) where
+      walked : Walks s₁ (visits s₁ (taken .definition) (read₁ .tree)) m noDates ds
       unfolding given
-      told = (rw (i .rows, i .table) at j) .tells given
+      walked = (rw (i .rows, i .table) at j) .tells given
 
       judges : judgedAs (taken .definition) (length t₁) s₁ (readDocument s₁) ≡ mismatchAnswer m
-      judges = rw (read₁ .reads, le-leb (size (read₁ .tree)) (rowsIn (length t₁)) (read₁ .room), ← told)
+      judges = rw (read₁ .reads, le-leb (size (read₁ .tree)) (rowsIn (length t₁)) (read₁ .room), ← walked .first)
 
-      pub check-meets : {c : Answer} → m .code ≡ 0 → c ≡ answer 0 0 0 0 → Promised s₁ s₂ t₁ t₂ c u₁ u₂
-      check-meets n e = promised (e ∙ sym (judges ∙ rw (eq-eqb (m .code) 0 n)))
+      pub check-mismatch : {c : Answer} → (m .code ≡ 0 → ⊥) → c ≡ answer (m .code) 1 (m .place) (m .other) → Promised s₁ s₂ t₁ t₂ c u₁ u₂ noDates
+      check-mismatch n e =
+          without-dates s₁ s₂ t₁ t₂ (answers (e ∙ sym (judges ∙ rw (ne-eqb (m .code) 0 n)))) rows (i .table) (λ z. n (sym (ap (λ (c : Answer). c .code) e) ∙ z))
 
-      pub check-mismatch : {c : Answer} → (m .code ≡ 0 → ⊥) → c ≡ answer (m .code) 1 (m .place) (m .other) → Promised s₁ s₂ t₁ t₂ c u₁ u₂
-      check-mismatch n e = promised (e ∙ sym (judges ∙ rw (ne-eqb (m .code) 0 n)))
+      -- where there is no mismatch, the dates are those that were counted
+      module _ (n : m .code ≡ 0) where
+        zero : {c : Answer} → c ≡ answer 0 0 0 0 → c ≡ checkAnswer (length t₁) (length t₂) s₁ s₂
+        zero e = answers (e ∙ sym (judges ∙ rw (eq-eqb (m .code) 0 n)))
+
+        dates : ds ≡ datesOf found
+        dates = walked .counts n [] none .numbers ∙ rw (le-leb (length found) mostDates few)
+
+        all-found : checkMoments (length t₁) (length t₂) s₁ s₂ ≡ found
+        unfolding checkMoments
+        all-found = rw (← zero refl, taken .accepts, read₁ .reads)
+
+        pub check-meets : {c : Answer} → c ≡ answer 0 0 0 0 → Promised s₁ s₂ t₁ t₂ c u₁ u₂ ds
+        check-meets e = whole s₁ s₂ t₁ t₂ (zero e) rows (i .table) (rw all-found dates)

@@ -5,7 +5,7 @@ use mathlib.Core.Path.{_≡_, refl, ap, _∙_}
 use mathlib.Core.Logic.{_⊎_, inl, inr}
 use mathlib.Core.Bool.{Bool, true, false, cond}
 use mathlib.Core.Option.{Option, none, some}
-use mathlib.Core.List.{List}
+use mathlib.Core.List.{List, [], _∷_, _++_}
 use lib.Dec.{eqb}
 use borrow.Author.Tests.{eqb-true}
 use Rattle.model.specs.Value.{IsJson, AreJson, AreMembers}
@@ -20,11 +20,13 @@ use Rattle.syntax.specs.Spelling.{valueOf, valuesOf, membersOf}
 use Rattle.syntax.specs.Holding.{Placed, PlacedAll, PlacedMembers}
 use Rattle.definitions.specs.Definitions.{Located, named-at, array-at, map-at, object-at, LocatedFields, no-field, field}
 use Rattle.schema.specs.Judging.{mismatch, nothing, orElse, unless, isWhole, isNumber, isString, isBoolean, ifScalar, dateOf, dateAt}
-use Rattle.schema.specs.Judging.{namedAt, firstElement, firstMember, judged, missing, skipped, mismatchAt, fieldsMismatch}
+use Rattle.schema.specs.Judging.{namedAt, Visit, value-by, eachElement, eachMember, atName, missing, skipped, visits, fieldVisits}
+use Rattle.schema.specs.Judging.{firstMismatch, mismatchAt}
 use Rattle.rows.specs.Finding.{lookup}
 use Rattle.schema.specs.declared.judging.Mismatch.{Mismatch}
 use Rattle.schema.proofs.judging.Looking.{lookup-found, lookup-none}
-use Rattle.schema.proofs.judging.Meeting.{or-none, nothing-meets, all-required, all-optional}
+use Rattle.schema.proofs.judging.Visits.{first-append, append-none}
+use Rattle.schema.proofs.judging.Meeting.{nothing-meets, all-required, all-optional}
 use Rattle.schema.proofs.judging.Order.{joinNodes, joinMembers, joinFields, EachNode, EachMember, MeetsAt, FieldsFound, Judges, itself}
 use Rattle.schema.proofs.judging.Order.{element, value, required, optional, Fails, wrong-kind, name-missing, no-date, fails-meets}
 use Rattle.schema.proofs.judging.Order.{fails-place}
@@ -38,96 +40,102 @@ or-ways a b =
     both (λ (m : Mismatch). (m .code ≡ 0 → ⊥) → ((a .code ≡ 0 → ⊥) × (m ≡ a)) ⊎ ((a .code ≡ 0) × (b .code ≡ 0 → ⊥) × (m ≡ b))) (eqb (a .code) 0)
     (λ t h. inr (eqb-true (a .code) 0 t, h, refl)) (λ t h. inl (h, refl))
 
--- an element that has a mismatch; those before it have none
-pub record FirstElement (j : Node → Mismatch) (ns : Nodes) : Type 0 where
-  pub before : Nodes
-  pub it : Node
-  pub after : Nodes
-  pub splits : ns ≡ joinNodes before (more it after)
-  pub passed : EachNode (λ n. j n .code ≡ 0) before
-  pub fails : j it .code ≡ 0 → ⊥
-  pub is : firstElement j ns ≡ j it
+module _ (s : List ℕ) where
+  append-ways : (xs ys : List Visit) → (firstMismatch s (xs ++ ys) .code ≡ 0 → ⊥)
+      → ((firstMismatch s xs .code ≡ 0 → ⊥) × (firstMismatch s (xs ++ ys) ≡ firstMismatch s xs))
+      ⊎ ((firstMismatch s xs .code ≡ 0) × (firstMismatch s ys .code ≡ 0 → ⊥) × (firstMismatch s (xs ++ ys) ≡ firstMismatch s ys))
+  append-ways xs ys = rw (first-append s xs ys) (or-ways (firstMismatch s xs) (firstMismatch s ys))
 
-pub first-element : (j : Node → Mismatch) (ns : Nodes) → (firstElement j ns .code ≡ 0 → ⊥) → FirstElement j ns
-first-element j no-node h = absurd (h refl)
-first-element j (more n ns) h = elim (or-ways (j n) (firstElement j ns) h) [
-  | inl w ↦ record { before = no-node; it = n; after = ns; splits = refl; passed = tt; fails = w .0; is = w .1 }
-  | inr w ↦ (let x = first-element j ns (w .1) in
-      record {
-        before = more n (x .before);
-        it = x .it;
-        after = x .after;
-        splits = ap (more n) (x .splits);
-        passed = (w .0, x .passed);
-        fails = x .fails;
-        is = w .2 ∙ x .is;
-      })
-]
+  -- an element that has a mismatch; those before it have none
+  pub record FirstElement (v : Node → List Visit) (ns : Nodes) : Type 0 where
+    pub before : Nodes
+    pub it : Node
+    pub after : Nodes
+    pub splits : ns ≡ joinNodes before (more it after)
+    pub passed : EachNode (λ n. firstMismatch s (v n) .code ≡ 0) before
+    pub fails : firstMismatch s (v it) .code ≡ 0 → ⊥
+    pub is : firstMismatch s (eachElement v ns) ≡ firstMismatch s (v it)
 
--- a member whose value has one; the values of those before it have none
-pub record FirstMember (j : Node → Mismatch) (ms : Members) : Type 0 where
-  pub before : Members
-  pub first : ℕ
-  pub last : ℕ
-  pub it : Node
-  pub after : Members
-  pub splits : ms ≡ joinMembers before (member first last it after)
-  pub passed : EachMember (λ n. j n .code ≡ 0) before
-  pub fails : j it .code ≡ 0 → ⊥
-  pub is : firstMember j ms ≡ j it
+  first-element : (v : Node → List Visit) (ns : Nodes) → (firstMismatch s (eachElement v ns) .code ≡ 0 → ⊥) → FirstElement v ns
+  first-element v no-node h = absurd (h refl)
+  first-element v (more n ns) h = elim (append-ways (v n) (eachElement v ns) h) [
+    | inl w ↦ record { before = no-node; it = n; after = ns; splits = refl; passed = tt; fails = w .0; is = w .1 }
+    | inr w ↦ (let x = first-element v ns (w .1) in
+        record {
+          before = more n (x .before);
+          it = x .it;
+          after = x .after;
+          splits = ap (more n) (x .splits);
+          passed = (w .0, x .passed);
+          fails = x .fails;
+          is = w .2 ∙ x .is;
+        })
+  ]
 
-pub first-member : (j : Node → Mismatch) (ms : Members) → (firstMember j ms .code ≡ 0 → ⊥) → FirstMember j ms
-first-member j no-member h = absurd (h refl)
-first-member j (member f e n ms) h = elim (or-ways (j n) (firstMember j ms) h) [
-  | inl w ↦ record { before = no-member; first = f; last = e; it = n; after = ms; splits = refl; passed = tt; fails = w .0; is = w .1 }
-  | inr w ↦ (let x = first-member j ms (w .1) in
-      record {
-        before = member f e n (x .before);
-        first = x .first;
-        last = x .last;
-        it = x .it;
-        after = x .after;
-        splits = ap (member f e n) (x .splits);
-        passed = (w .0, x .passed);
-        fails = x .fails;
-        is = w .2 ∙ x .is;
-      })
-]
+  -- a member whose value has one; the values of those before it have none
+  pub record FirstMember (v : Node → List Visit) (ms : Members) : Type 0 where
+    pub before : Members
+    pub first : ℕ
+    pub last : ℕ
+    pub it : Node
+    pub after : Members
+    pub splits : ms ≡ joinMembers before (member first last it after)
+    pub passed : EachMember (λ n. firstMismatch s (v n) .code ≡ 0) before
+    pub fails : firstMismatch s (v it) .code ≡ 0 → ⊥
+    pub is : firstMismatch s (eachMember v ms) ≡ firstMismatch s (v it)
 
--- what a field says of the members
-abbrev pub fieldAt : List ℕ → (ℕ → Mismatch) → ℕ → List ℕ → Located → Members → Mismatch
-fieldAt s absent q k d ms = judged (lookup s k ms) (absent q) (λ n. mismatchAt s d n)
+  first-member : (v : Node → List Visit) (ms : Members) → (firstMismatch s (eachMember v ms) .code ≡ 0 → ⊥) → FirstMember v ms
+  first-member v no-member h = absurd (h refl)
+  first-member v (member f e n ms) h = elim (append-ways (v n) (eachMember v ms) h) [
+    | inl w ↦ record { before = no-member; first = f; last = e; it = n; after = ms; splits = refl; passed = tt; fails = w .0; is = w .1 }
+    | inr w ↦ (let x = first-member v ms (w .1) in
+        record {
+          before = member f e n (x .before);
+          first = x .first;
+          last = x .last;
+          it = x .it;
+          after = x .after;
+          splits = ap (member f e n) (x .splits);
+          passed = (w .0, x .passed);
+          fails = x .fails;
+          is = w .2 ∙ x .is;
+        })
+  ]
 
--- a field under whose name there is one, be it that the name is missing; before it there is none
-pub record FirstField (s : List ℕ) (absent : ℕ → Mismatch) (fs : LocatedFields) (ms : Members) : Type 0 where
-  pub before : LocatedFields
-  pub quote : ℕ
-  pub name : List ℕ
-  pub definition : Located
-  pub after : LocatedFields
-  pub splits : fs ≡ joinFields before (field quote name definition after)
-  pub passed : fieldsMismatch s absent before ms .code ≡ 0
-  pub fails : fieldAt s absent quote name definition ms .code ≡ 0 → ⊥
-  pub is : fieldsMismatch s absent fs ms ≡ fieldAt s absent quote name definition ms
+  -- what is judged by a field
+  abbrev byField : (ℕ → List Visit) → ℕ → List ℕ → Located → Members → List Visit
+  byField absent q k d ms = atName (lookup s k ms) (absent q) (λ n. visits s d n)
 
-pub first-field : (s : List ℕ) (absent : ℕ → Mismatch) (fs : LocatedFields) (ms : Members) → (fieldsMismatch s absent fs ms .code ≡ 0 → ⊥)
-    → FirstField s absent fs ms
-first-field s absent no-field ms h = absurd (h refl)
-first-field s absent (field q k d fs) ms h = elim (or-ways (fieldAt s absent q k d ms) (fieldsMismatch s absent fs ms) h) [
-  | inl w ↦ record { before = no-field; quote = q; name = k; definition = d; after = fs; splits = refl; passed = refl; fails = w .0; is = w .1 }
-  | inr w ↦ (let x = first-field s absent fs ms (w .1) in
-      record {
-        before = field q k d (x .before);
-        quote = x .quote;
-        name = x .name;
-        definition = x .definition;
-        after = x .after;
-        splits = ap (field q k d) (x .splits);
-        passed = or-none (fieldAt s absent q k d ms) (fieldsMismatch s absent (x .before) ms) .1 (w .0, x .passed);
-        fails = x .fails;
-        is = w .2 ∙ x .is;
-      })
-]
+  -- a field under whose name there is one, be it that the name is missing; before it there is none
+  pub record FirstField (absent : ℕ → List Visit) (fs : LocatedFields) (ms : Members) : Type 0 where
+    pub before : LocatedFields
+    pub quote : ℕ
+    pub name : List ℕ
+    pub definition : Located
+    pub after : LocatedFields
+    pub splits : fs ≡ joinFields before (field quote name definition after)
+    pub passed : firstMismatch s (fieldVisits s absent before ms) .code ≡ 0
+    pub fails : firstMismatch s (byField absent quote name definition ms) .code ≡ 0 → ⊥
+    pub is : firstMismatch s (fieldVisits s absent fs ms) ≡ firstMismatch s (byField absent quote name definition ms)
+
+  first-field : (absent : ℕ → List Visit) (fs : LocatedFields) (ms : Members) → (firstMismatch s (fieldVisits s absent fs ms) .code ≡ 0 → ⊥)
+      → FirstField absent fs ms
+  first-field absent no-field ms h = absurd (h refl)
+  first-field absent (field q k d fs) ms h = elim (append-ways (byField absent q k d ms) (fieldVisits s absent fs ms) h) [
+    | inl w ↦ record { before = no-field; quote = q; name = k; definition = d; after = fs; splits = refl; passed = refl; fails = w .0; is = w .1 }
+    | inr w ↦ (let x = first-field absent fs ms (w .1) in
+        record {
+          before = field q k d (x .before);
+          quote = x .quote;
+          name = x .name;
+          definition = x .definition;
+          after = x .after;
+          splits = ap (field q k d) (x .splits);
+          passed = append-none s (byField absent q k d ms) (fieldVisits s absent (x .before) ms) .1 (w .0, x .passed);
+          fails = x .fails;
+          is = w .2 ∙ x .is;
+        })
+  ]
 
 -- ---- what is named is real
 
@@ -227,7 +235,7 @@ module _ (s : List ℕ) where
   array-real p d h (scalar k f e) l i z = here (array-at p d) (scalar k f e) _ l (wrong-kind refl refl)
   array-real p d h (object f e ms) l i z = here (array-at p d) (object f e ms) _ l (wrong-kind refl refl)
   array-real p d h (array f e ns) l i z =
-      let x = first-element (λ n. mismatchAt s d n) ns z in
+      let x = first-element s (λ n. visits s d n) ns z in
       let y = nodes-meet d (x .before) (more (x .it) (x .after)) (rw (x .splits) at (l .2)) (rw (x .splits) at i) (x .passed) in
       onward (h (x .it) (y .1 .0) (y .2 .0) (x .fails)) (λ d₂ n₂ j. element (x .before) (x .after) (x .splits) (y .0) j) (x .is)
 
@@ -235,13 +243,13 @@ module _ (s : List ℕ) where
   map-real p d h (scalar k f e) l i z = here (map-at p d) (scalar k f e) _ l (wrong-kind refl refl)
   map-real p d h (array f e ns) l i z = here (map-at p d) (array f e ns) _ l (wrong-kind refl refl)
   map-real p d h (object f e ms) l i z =
-      let x = first-member (λ n. mismatchAt s d n) ms z in
+      let x = first-member s (λ n. visits s d n) ms z in
       let y = members-meet d (x .before) (member (x .first) (x .last) (x .it) (x .after)) (rw (x .splits) at (l .2)) (rw (x .splits) at i) (x .passed) in
       onward (h (x .it) (y .1 .1) (y .2 .2) (x .fails)) (λ d₂ n₂ j. value (x .before) (x .first) (x .last) (x .after) (x .splits) (y .0) j) (x .is)
 
   module _ (p f e : ℕ) (r o : LocatedFields) (ms : Members) (l : Placed s (object f e ms)) (i : AreMembers (membersOf s ms)) where
-    required-real : AllReals r → (fieldsMismatch s (missing f) r ms .code ≡ 0 → ⊥)
-        → Real s (object-at p r o) (object f e ms) (fieldsMismatch s (missing f) r ms)
+    required-real : AllReals r → (firstMismatch s (fieldVisits s (missing f) r ms) .code ≡ 0 → ⊥)
+        → Real s (object-at p r o) (object f e ms) (firstMismatch s (fieldVisits s (missing f) r ms))
     required-real h z = by-value (lookup s (x .name) ms) refl (x .fails) (x .is)
       where
         x : FirstField s (missing f) r ms
@@ -251,9 +259,9 @@ module _ (s : List ℕ) where
         found = all-required s f (x .before) ms (l .2) i .0 (x .passed)
 
         by-value : (v : Option Node) → lookup s (x .name) ms ≡ v
-            → (judged v (missing f (x .quote)) (λ n. mismatchAt s (x .definition) n) .code ≡ 0 → ⊥)
-            → fieldsMismatch s (missing f) r ms ≡ judged v (missing f (x .quote)) (λ n. mismatchAt s (x .definition) n)
-            → Real s (object-at p r o) (object f e ms) (fieldsMismatch s (missing f) r ms)
+            → (firstMismatch s (atName v (missing f (x .quote)) (λ n. visits s (x .definition) n)) .code ≡ 0 → ⊥)
+            → firstMismatch s (fieldVisits s (missing f) r ms) ≡ firstMismatch s (atName v (missing f (x .quote)) (λ n. visits s (x .definition) n))
+            → Real s (object-at p r o) (object f e ms) (firstMismatch s (fieldVisits s (missing f) r ms))
         by-value none w u q =
             here (object-at p r o) (object f e ms) _ l (name-missing (x .quote) (record {
               place = p;
@@ -277,17 +285,17 @@ module _ (s : List ℕ) where
             onward (reals-at (x .before) (x .quote) (x .name) (x .definition) (x .after) (rw (x .splits) at h) n (y .placed (l .2)) (y .json i) u)
             (λ d₂ n₂ j. required (x .before) (x .quote) (x .name) (x .after) (x .splits) found w j) q
 
-    optional-real : AllReals o → fieldsMismatch s (missing f) r ms .code ≡ 0 → (fieldsMismatch s skipped o ms .code ≡ 0 → ⊥)
-        → Real s (object-at p r o) (object f e ms) (fieldsMismatch s skipped o ms)
+    optional-real : AllReals o → firstMismatch s (fieldVisits s (missing f) r ms) .code ≡ 0 → (firstMismatch s (fieldVisits s skipped o ms) .code ≡ 0 → ⊥)
+        → Real s (object-at p r o) (object f e ms) (firstMismatch s (fieldVisits s skipped o ms))
     optional-real h b z = by-value (lookup s (x .name) ms) refl (x .fails) (x .is)
       where
         x : FirstField s skipped o ms
         x = first-field s skipped o ms z
 
         by-value : (v : Option Node) → lookup s (x .name) ms ≡ v
-            → (judged v nothing (λ n. mismatchAt s (x .definition) n) .code ≡ 0 → ⊥)
-            → fieldsMismatch s skipped o ms ≡ judged v nothing (λ n. mismatchAt s (x .definition) n)
-            → Real s (object-at p r o) (object f e ms) (fieldsMismatch s skipped o ms)
+            → (firstMismatch s (atName v [] (λ n. visits s (x .definition) n)) .code ≡ 0 → ⊥)
+            → firstMismatch s (fieldVisits s skipped o ms) ≡ firstMismatch s (atName v [] (λ n. visits s (x .definition) n))
+            → Real s (object-at p r o) (object f e ms) (firstMismatch s (fieldVisits s skipped o ms))
         by-value none w u q = absurd (u refl)
         by-value (some n) w u q =
             let y = lookup-found s (x .name) ms n w in
@@ -299,14 +307,17 @@ module _ (s : List ℕ) where
   object-real p r o h k (scalar j f e) l i z = here (object-at p r o) (scalar j f e) _ l (wrong-kind refl refl)
   object-real p r o h k (array f e ns) l i z = here (object-at p r o) (array f e ns) _ l (wrong-kind refl refl)
   object-real p r o h k (object f e ms) l i z =
-      elim (or-ways (fieldsMismatch s (missing f) r ms) (fieldsMismatch s skipped o ms) z) [
+      elim (append-ways s (fieldVisits s (missing f) r ms) (fieldVisits s skipped o ms) z) [
         | inl w ↦ rw (w .1) (required-real p f e r o ms l i h (w .0))
         | inr w ↦ rw (w .2) (optional-real p f e r o ms l i k (w .0) (w .1))
       ]
 
   mutual
     reals : (d : Located) (n : Node) → Placed s n → IsJson (valueOf s n) → (mismatchAt s d n .code ≡ 0 → ⊥) → Real s d n (mismatchAt s d n)
-    reals (named-at p t) n l i z = here (named-at p t) n (namedAt s p t n) l (named-fails p t n z)
+    reals (named-at p t) n l i z = elim (or-ways (namedAt s p t n) nothing z) [
+      | inl w ↦ rw (w .1) (here (named-at p t) n (namedAt s p t n) l (named-fails p t n (w .0)))
+      | inr w ↦ absurd (w .1 refl)
+    ]
     reals (array-at p d) n l i z = array-real p d (λ m l i z. reals d m l i z) n l i z
     reals (map-at p d) n l i z = map-real p d (λ m l i z. reals d m l i z) n l i z
     reals (object-at p r o) n l i z = object-real p r o (all-reals r) (all-reals o) n l i z

@@ -4,10 +4,8 @@ use mathlib.Core.Path.{_≡_, refl, sym, _∙_}
 use mathlib.Core.Logic.{inl, inr, _↔_}
 use mathlib.Core.Bool.{Bool, true, false, cond, false≢true}
 use mathlib.Core.Option.{Option, none, some}
-use mathlib.Core.List.{List}
+use mathlib.Core.List.{List, [], _∷_}
 use native.Mathlib.Omega.{arith}
-use lib.Dec.{eqb}
-use borrow.Author.Tests.{eqb-true, eqb-false}
 use Rattle.model.specs.Value.{Value, Values, Among, Under, hasName, isInteger, IsJson, AreJson, AreMembers, Members as ValueMembers}
 use Rattle.model.specs.Definition.{Named, JSON, Schema, Float, Integer, String, Boolean, DateTime, definitionOf}
 use Rattle.model.specs.Date.{isDate}
@@ -20,21 +18,15 @@ use Rattle.syntax.specs.Spelling.{scalarOf, valueOf, valuesOf, membersOf}
 use Rattle.syntax.specs.Holding.{Placed, PlacedAll, PlacedMembers}
 use Rattle.definitions.specs.Definitions.{Located, named-at, array-at, map-at, object-at, LocatedFields, no-field, field, bare, bareFields}
 use Rattle.schema.specs.Judging.{mismatch, nothing, orElse, unless, isWhole, isNumber, isString, isBoolean, ifScalar, dateOf, dateAt}
-use Rattle.schema.specs.Judging.{namedAt, ifArray, ifObject, firstElement, firstMember, judged, missing, skipped, mismatchAt}
-use Rattle.schema.specs.Judging.{fieldsMismatch}
+use Rattle.schema.specs.Judging.{namedAt, isObject, Visit, value-by, mismatchOf, inArray, inObject, eachElement, eachMember, atName}
+use Rattle.schema.specs.Judging.{missing, skipped, visits, fieldVisits, firstMismatch, mismatchAt}
 use Rattle.rows.specs.Finding.{lookup}
 use Rattle.schema.specs.declared.judging.Mismatch.{Mismatch}
+use Rattle.schema.proofs.judging.Visits.{append-none, one-none}
 use Rattle.schema.proofs.judging.Looking.{not-under, Looked, looked}
 use Rattle.schema.proofs.judging.Codes.{mismatch-code}
 
 -- ---- tests
-
--- there is none exactly where both have none
-pub or-none : (a b : Mismatch) → (orElse a b .code ≡ 0) ↔ ((a .code ≡ 0) × (b .code ≡ 0))
-or-none a b =
-    both (λ (m : Mismatch). (m .code ≡ 0) ↔ ((a .code ≡ 0) × (b .code ≡ 0))) (eqb (a .code) 0)
-    (λ t. (λ e. (eqb-true (a .code) 0 t, e), λ h. h .1))
-    (λ t. (λ e. absurd (eqb-false (a .code) 0 t e), λ h. absurd (eqb-false (a .code) 0 t (h .0))))
 
 unless-none : (ok test : Bool) → ok ≡ test → (f p : ℕ) → (unless ok f p .code ≡ 0) ↔ (test ≡ true)
 unless-none true test e f p = (λ _. sym e, λ _. refl)
@@ -145,42 +137,44 @@ module _ (s : List ℕ) where
   scalar-object P Fractional f e h = h
   scalar-object P Quoted f e h = h
 
-  array-none : (P : Values → Type 0) (p : ℕ) (j : Nodes → Mismatch)
-      → ((ns : Nodes) → PlacedAll s ns → AreJson (valuesOf s ns) → (j ns .code ≡ 0) ↔ P (valuesOf s ns))
-      → (n : Node) → Placed s n → IsJson (valueOf s n) → (ifArray n p j .code ≡ 0) ↔ IfArray P (valueOf s n)
-  array-none P p j h (scalar k f e) l i = (λ z. absurd (omega arith), λ x. absurd (scalar-array P k f e x))
-  array-none P p j h (array f e ns) l i = h ns (l .2) i
-  array-none P p j h (object f e ms) l i = (λ z. absurd (omega arith), λ x. absurd x)
+  -- the value's kind is judged, and what is in it
+  array-none : (P : Values → Type 0) (p : ℕ) (d : Located) (v : Nodes → List Visit)
+      → ((ns : Nodes) → PlacedAll s ns → AreJson (valuesOf s ns) → (firstMismatch s (v ns) .code ≡ 0) ↔ P (valuesOf s ns))
+      → (n : Node) → Placed s n → IsJson (valueOf s n) → (firstMismatch s (value-by (array-at p d) n ∷ inArray n v) .code ≡ 0) ↔ IfArray P (valueOf s n)
+  array-none P p d v h (scalar k f e) l i = (λ z. absurd (omega arith), λ x. absurd (scalar-array P k f e x))
+  array-none P p d v h (array f e ns) l i = h ns (l .2) i
+  array-none P p d v h (object f e ms) l i = (λ z. absurd (omega arith), λ x. absurd x)
 
-  object-none : (P : ValueMembers → Type 0) (p : ℕ) (j : Members → Mismatch)
-      → ((ms : Members) → PlacedMembers s ms → AreMembers (membersOf s ms) → (j ms .code ≡ 0) ↔ P (membersOf s ms))
-      → (n : Node) → Placed s n → IsJson (valueOf s n) → (ifObject n p j .code ≡ 0) ↔ IfObject P (valueOf s n)
-  object-none P p j h (scalar k f e) l i = (λ z. absurd (omega arith), λ x. absurd (scalar-object P k f e x))
-  object-none P p j h (array f e ns) l i = (λ z. absurd (omega arith), λ x. absurd x)
-  object-none P p j h (object f e ms) l i = h ms (l .2) i
+  object-none : (P : ValueMembers → Type 0) (p : ℕ) (v : Members → List Visit)
+      → ((ms : Members) → PlacedMembers s ms → AreMembers (membersOf s ms) → (firstMismatch s (v ms) .code ≡ 0) ↔ P (membersOf s ms))
+      → (n : Node) → Placed s n → IsJson (valueOf s n)
+      → (orElse (unless (isObject n) (placeOf n) p) (firstMismatch s (inObject n v)) .code ≡ 0) ↔ IfObject P (valueOf s n)
+  object-none P p v h (scalar k f e) l i = (λ z. absurd (omega arith), λ x. absurd (scalar-object P k f e x))
+  object-none P p v h (array f e ns) l i = (λ z. absurd (omega arith), λ x. absurd x)
+  object-none P p v h (object f e ms) l i = h ms (l .2) i
 
-  -- j finds none exactly where the value has the property
-  abbrev Judge : (Node → Mismatch) → (Value → Type 0) → Type 0
-  Judge j P = (n : Node) → Placed s n → IsJson (valueOf s n) → (j n .code ≡ 0) ↔ P (valueOf s n)
+  -- none of what v judges fails exactly where the value has the property
+  abbrev Judge : (Node → List Visit) → (Value → Type 0) → Type 0
+  Judge v P = (n : Node) → Placed s n → IsJson (valueOf s n) → (firstMismatch s (v n) .code ≡ 0) ↔ P (valueOf s n)
 
-  elements-none : (P : Value → Type 0) (j : Node → Mismatch) → Judge j P → (ns : Nodes) → PlacedAll s ns → AreJson (valuesOf s ns)
-      → (firstElement j ns .code ≡ 0) ↔ ((w : Value) → Among w (valuesOf s ns) → P w)
-  elements-none P j h no-node l i = (λ _ w x. absurd x, λ _. refl)
-  elements-none P j h (more n ns) l i =
-      let o = or-none (j n) (firstElement j ns) in
+  elements-none : (P : Value → Type 0) (v : Node → List Visit) → Judge v P → (ns : Nodes) → PlacedAll s ns → AreJson (valuesOf s ns)
+      → (firstMismatch s (eachElement v ns) .code ≡ 0) ↔ ((w : Value) → Among w (valuesOf s ns) → P w)
+  elements-none P v h no-node l i = (λ _ w x. absurd x, λ _. refl)
+  elements-none P v h (more n ns) l i =
+      let o = append-none s (v n) (eachElement v ns) in
       let a = h n (l .0) (i .0) in
-      let b = elements-none P j h ns (l .1) (i .1) in (
+      let b = elements-none P v h ns (l .1) (i .1) in (
         λ z w x. elim x [ inl q ↦ rw q (a .0 (o .0 z .0)) | inr y ↦ b .0 (o .0 z .1) w y ],
         λ f. o .1 (a .1 (f (valueOf s n) (inl refl)), b .1 (λ w x. f w (inr x))),
       )
 
-  members-none : (P : Value → Type 0) (j : Node → Mismatch) → Judge j P → (ms : Members) → PlacedMembers s ms → AreMembers (membersOf s ms)
-      → (firstMember j ms .code ≡ 0) ↔ ((k : List ℕ) (w : Value) → Under k w (membersOf s ms) → P w)
-  members-none P j h no-member l i = (λ _ k w x. absurd x, λ _. refl)
-  members-none P j h (member f e n ms) l i =
-      let o = or-none (j n) (firstMember j ms) in
+  members-none : (P : Value → Type 0) (v : Node → List Visit) → Judge v P → (ms : Members) → PlacedMembers s ms → AreMembers (membersOf s ms)
+      → (firstMismatch s (eachMember v ms) .code ≡ 0) ↔ ((k : List ℕ) (w : Value) → Under k w (membersOf s ms) → P w)
+  members-none P v h no-member l i = (λ _ k w x. absurd x, λ _. refl)
+  members-none P v h (member f e n ms) l i =
+      let o = append-none s (v n) (eachMember v ms) in
       let a = h n (l .1) (i .2) in
-      let b = members-none P j h ms (l .2) (i .3) in (
+      let b = members-none P v h ms (l .2) (i .3) in (
         λ z k w x. elim x [ inl q ↦ rw (q .1) (a .0 (o .0 z .0)) | inr y ↦ b .0 (o .0 z .1) k w y ],
         λ g. o .1 (a .1 (g (nameOf s f e) (valueOf s n) (inl (refl, refl))), b .1 (λ k w x. g k w (inr x))),
       )
@@ -188,53 +182,54 @@ module _ (s : List ℕ) where
   -- ---- fields
 
   -- what stands under the name of an optional field, if anything does
-  optional-none : (P : Value → Type 0) (j : Node → Mismatch) → Judge j P → (k : List ℕ) (ms : Members) → PlacedMembers s ms → AreMembers (membersOf s ms)
-      → (o : Option Node) → Looked s k ms o → (judged o nothing j .code ≡ 0) ↔ ((w : Value) → Under k w (membersOf s ms) → P w)
-  optional-none P j h k ms l i none x = (λ _ w u. absurd (not-under k w (membersOf s ms) x u), λ _. refl)
-  optional-none P j h k ms l i (some m) x =
+  optional-none : (P : Value → Type 0) (v : Node → List Visit) → Judge v P → (k : List ℕ) (ms : Members) → PlacedMembers s ms → AreMembers (membersOf s ms)
+      → (o : Option Node) → Looked s k ms o → (firstMismatch s (atName o [] v) .code ≡ 0) ↔ ((w : Value) → Under k w (membersOf s ms) → P w)
+  optional-none P v h k ms l i none x = (λ _ w u. absurd (not-under k w (membersOf s ms) x u), λ _. refl)
+  optional-none P v h k ms l i (some m) x =
       let a = h m (x .placed l) (x .json i) in
       (λ z w u. rw (x .only i w u) (a .0 z), λ f. a .1 (f (valueOf s m) (x .under)))
 
   -- of a required one something must
-  required-none : (P : Value → Type 0) (j : Node → Mismatch) → Judge j P → (k : List ℕ) (ms : Members) → PlacedMembers s ms → AreMembers (membersOf s ms)
+  required-none : (P : Value → Type 0) (v : Node → List Visit) → Judge v P → (k : List ℕ) (ms : Members) → PlacedMembers s ms → AreMembers (membersOf s ms)
       → (b q : ℕ) (o : Option Node) → Looked s k ms o
-      → (judged o (missing b q) j .code ≡ 0) ↔ ((hasName k (membersOf s ms) ≡ true) × ((w : Value) → Under k w (membersOf s ms) → P w))
-  required-none P j h k ms l i b q none x = (λ z. absurd (omega arith), λ f. clash _ (f .0) x)
-  required-none P j h k ms l i b q (some m) x =
-      let a = optional-none P j h k ms l i (some m) x in
+      → (firstMismatch s (atName o (missing b q) v) .code ≡ 0) ↔ ((hasName k (membersOf s ms) ≡ true) × ((w : Value) → Under k w (membersOf s ms) → P w))
+  required-none P v h k ms l i b q none x = (λ z. absurd (omega arith), λ f. clash _ (f .0) x)
+  required-none P v h k ms l i b q (some m) x =
+      let a = optional-none P v h k ms l i (some m) x in
       (λ z. (x .has, a .0 z), λ f. a .1 (f .1))
 
   mutual
-    meets-none : (d : Located) → Judge (λ n. mismatchAt s d n) (Meets (bare d))
-    meets-none (named-at p t) n l i = named-none p t n l
-    meets-none (array-at p d) n l i = array-none _ p _ (elements-none (Meets (bare d)) (λ m. mismatchAt s d m) (λ m l i. meets-none d m l i)) n l i
-    meets-none (map-at p d) n l i = object-none _ p _ (members-none (Meets (bare d)) (λ m. mismatchAt s d m) (λ m l i. meets-none d m l i)) n l i
+    meets-none : (d : Located) → Judge (λ n. visits s d n) (Meets (bare d))
+    meets-none (named-at p t) n l i = one-none s (value-by (named-at p t) n) (named-none p t n l)
+    meets-none (array-at p d) n l i = array-none _ p d _ (elements-none (Meets (bare d)) (λ m. visits s d m) (λ m l i. meets-none d m l i)) n l i
+    meets-none (map-at p d) n l i = object-none _ p _ (members-none (Meets (bare d)) (λ m. visits s d m) (λ m l i. meets-none d m l i)) n l i
     meets-none (object-at p r o) n l i =
         object-none (λ ms. HasNames (bareFields r) ms × FieldsMeet (bareFields r) ms × FieldsMeet (bareFields o) ms) p _
         (λ ms l i.
-        let b = or-none (fieldsMismatch s (missing (placeOf n)) r ms) (fieldsMismatch s skipped o ms) in
+        let b = append-none s (fieldVisits s (missing (placeOf n)) r ms) (fieldVisits s skipped o ms) in
         let x = all-required (placeOf n) r ms l i in
         let y = all-optional o ms l i in
         (λ z. (x .0 (b .0 z .0) .0, x .0 (b .0 z .0) .1, y .0 (b .0 z .1)), λ h. b .1 (x .1 (h .0, h .1), y .1 (h .2))))
         n l i
 
     pub all-required : (b : ℕ) (fs : LocatedFields) (ms : Members) → PlacedMembers s ms → AreMembers (membersOf s ms)
-        → (fieldsMismatch s (missing b) fs ms .code ≡ 0) ↔ (HasNames (bareFields fs) (membersOf s ms) × FieldsMeet (bareFields fs) (membersOf s ms))
+        → (firstMismatch s (fieldVisits s (missing b) fs ms) .code ≡ 0)
+        ↔ (HasNames (bareFields fs) (membersOf s ms) × FieldsMeet (bareFields fs) (membersOf s ms))
     all-required b no-field ms l i = (λ _. (tt, tt), λ _. refl)
     all-required b (field q k d fs) ms l i =
-        let o = or-none (judged (lookup s k ms) (missing b q) (λ m. mismatchAt s d m)) (fieldsMismatch s (missing b) fs ms) in
-        let x = required-none (Meets (bare d)) (λ m. mismatchAt s d m) (λ m l i. meets-none d m l i) k ms l i b q (lookup s k ms) (looked s k ms) in
+        let o = append-none s (atName (lookup s k ms) (missing b q) (λ m. visits s d m)) (fieldVisits s (missing b) fs ms) in
+        let x = required-none (Meets (bare d)) (λ m. visits s d m) (λ m l i. meets-none d m l i) k ms l i b q (lookup s k ms) (looked s k ms) in
         let y = all-required b fs ms l i in (
           λ z. let u = x .0 (o .0 z .0) in let v = y .0 (o .0 z .1) in ((u .0, v .0), (u .1, v .1)),
           λ h. o .1 (x .1 (h .0 .0, h .1 .0), y .1 (h .0 .1, h .1 .1)),
         )
 
     pub all-optional : (fs : LocatedFields) (ms : Members) → PlacedMembers s ms → AreMembers (membersOf s ms)
-        → (fieldsMismatch s skipped fs ms .code ≡ 0) ↔ FieldsMeet (bareFields fs) (membersOf s ms)
+        → (firstMismatch s (fieldVisits s skipped fs ms) .code ≡ 0) ↔ FieldsMeet (bareFields fs) (membersOf s ms)
     all-optional no-field ms l i = (λ _. tt, λ _. refl)
     all-optional (field q k d fs) ms l i =
-        let o = or-none (judged (lookup s k ms) (skipped q) (λ m. mismatchAt s d m)) (fieldsMismatch s skipped fs ms) in
-        let x = optional-none (Meets (bare d)) (λ m. mismatchAt s d m) (λ m l i. meets-none d m l i) k ms l i (lookup s k ms) (looked s k ms) in
+        let o = append-none s (atName (lookup s k ms) (skipped q) (λ m. visits s d m)) (fieldVisits s skipped fs ms) in
+        let x = optional-none (Meets (bare d)) (λ m. visits s d m) (λ m l i. meets-none d m l i) k ms l i (lookup s k ms) (looked s k ms) in
         let y = all-optional fs ms l i in
         (λ z. (x .0 (o .0 z .0), y .0 (o .0 z .1)), λ h. o .1 (x .1 (h .0), y .1 (h .1)))
 

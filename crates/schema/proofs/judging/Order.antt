@@ -17,7 +17,7 @@ use Rattle.syntax.specs.Grammar.{nameOf}
 use Rattle.syntax.specs.Spelling.{scalarOf, valueOf, valuesOf, membersOf}
 use Rattle.syntax.specs.Holding.{Placed}
 use Rattle.definitions.specs.Definitions.{Located, named-at, array-at, map-at, object-at, LocatedFields, no-field, field, bare, bareFields}
-use Rattle.schema.specs.Judging.{mismatch, isWhole, isNumber, isString, isBoolean, ifScalar}
+use Rattle.schema.specs.Judging.{mismatch, isWhole, isNumber, isString, isBoolean, ifScalar, isArray, isObject}
 use Rattle.rows.specs.Finding.{lookup}
 use Rattle.schema.specs.declared.judging.Mismatch.{Mismatch}
 use Rattle.definitions.proofs.Facts.{firstByte}
@@ -83,16 +83,6 @@ pub data Judges (s : List ℕ) : Located → Node → Located → Node → Type 
       → Judges s d x d₂ n₂ → Judges s (object-at p r o) (object f e ms) d₂ n₂
 
 -- ---- why a value does not meet a definition
-
-abbrev pub isArray : Node → Bool
-isArray (scalar k f e) = false
-isArray (array f e ns) = true
-isArray (object f e ms) = false
-
-abbrev pub isObject : Node → Bool
-isObject (scalar k f e) = false
-isObject (array f e ns) = false
-isObject (object f e ms) = true
 
 -- the value is of the kind that the type takes
 abbrev pub takes : List ℕ → Named → Node → Bool

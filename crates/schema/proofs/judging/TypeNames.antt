@@ -1,6 +1,6 @@
--- A value against a type name, on plain values: one law for each way out of `judge_date` and `judge_named` (01, "Definitions": "First misfit").
+-- A value against a type name, on plain values: one law for each way out of `judge_named` (01, "Definitions": "First misfit").
 use Prim.Native.Nat.{ℕ}
-use mathlib.Core.Path.{_≡_, refl, sym, ap, _∙_}
+use mathlib.Core.Path.{_≡_, refl, sym, ap, subst, _∙_}
 use mathlib.Core.Bool.{Bool, true, false, cond}
 use mathlib.Core.Option.{some}
 use mathlib.Core.List.{List, [], _∷_}
@@ -8,6 +8,7 @@ use native.Mathlib.Omega.{arith}
 use denote.Enum.Declared.{tagOf}
 use types.Run.{OneOf, miss}
 use lib.Dec.{eqb}
+use lib.IntN.{ℤ}
 use borrow.Author.Tests.{eq-eqb, ne-eqb}
 use Rattle.model.specs.Date.{isDate}
 use Rattle.model.specs.Meeting.{isSome}
@@ -21,8 +22,9 @@ use Rattle.definitions.specs.Definitions.{Located, named-at, Defined, faulty, f
 use Rattle.definitions.specs.Definitions.{definitionAt, faultOf, Defines}
 use Rattle.definitions.specs.Types.{typeName, takesKind}
 use Rattle.schema.specs.Judging.{mismatch, nothing, unless, isWhole, isNumber, isString, isBoolean, ifScalar, dateAt, namedAt}
-use Rattle.schema.specs.Judging.{mismatchAt, Judgeable, Judged}
-use Rattle.schema.specs.Judging.{JudgedDate}
+use Rattle.schema.specs.Judging.{value-by, visits}
+use Rattle.schema.specs.Dates.{namedMoment}
+use Rattle.schema.specs.Walks.{Counted, Walks, Judgeable, Judged, JudgedDate}
 use Rattle.rows.specs.Records.{Reads}
 use Rattle.rows.specs.declared.records.Record.{Record}
 use Rattle.definitions.specs.declared.definitions.Fault.{Fault}
@@ -34,25 +36,7 @@ use Rattle.definitions.proofs.types.TypeName.{the-type as type-names}
 use Rattle.definitions.proofs.Facts.{fault-code, forget, definition-forgets, string-type}
 use Rattle.rows.proofs.Facts.{kindOf, kind-read, place-read, string-read}
 use Rattle.schema.proofs.judging.OtherKinds.{no-date}
-use Rattle.schema.proofs.judging.Laws.{defined, conclude}
-
--- ---- dates
-
-module _ {s t : List ℕ} {r : ℕ} {x : Record} (p : Reads t r x) {o : ℕ} {m : Mismatch} where
-  pub date-other : (x .kind ≡ 6 → ⊥) → m ≡ mismatch 20 (x .first) o → JudgedDate s t r o m
-  date-other h e = record {
-    tells = λ w. e ∙ ap (λ (f : ℕ). mismatch 20 f o) (place-read w p) ∙ sym (no-date s o (w .tree) (λ q. h (kind-read w p ∙ q)));
-  }
-
-  module _ (h : x .kind ≡ 6) {b : Bool} (d : b ≡ isDate (nameOf s (x .first) (x .end))) where
-    date-string : m ≡ cond b nothing (mismatch 22 (x .first) o) → JudgedDate s t r o m
-    date-string e = record { tells = λ w. e ∙ ap (λ (b : Bool). cond b nothing (mismatch 22 (x .first) o)) d ∙ sym (ap (dateAt s o) (string-read w p h)) }
-
-    pub date-is : b ≡ true → m ≡ nothing → JudgedDate s t r o m
-    date-is q e = date-string (rw q e)
-
-    pub date-not : b ≡ false → m ≡ mismatch 22 (x .first) o → JudgedDate s t r o m
-    date-not q e = date-string (rw q e)
+use Rattle.schema.proofs.judging.Laws.{walks-fails, walks-date, walks-unless, defined, conclude}
 
 -- ---- type names
 
@@ -84,6 +68,16 @@ by-kind s p Integer n h = ap (λ (b : Bool). unless b (placeOf n) p) (takes-as I
 by-kind s p String n h = ap (λ (b : Bool). unless b (placeOf n) p) (takes-as TextName isString refl refl refl refl refl refl refl refl n)
 by-kind s p Boolean n h = ap (λ (b : Bool). unless b (placeOf n) p) (takes-as BooleanName isBoolean refl refl refl refl refl refl refl refl n)
 by-kind s p DateTime n h = absurd (miss kindOnly 6 tt h)
+
+-- no date is judged by its kind alone
+kind-moment : (s : List ℕ) (t : Named) (n : Node) → OneOf kindOnly (tagOf type-names (typeName (some t))) → namedMoment s t n ≡ []
+kind-moment s JSON n h = refl
+kind-moment s Schema n h = refl
+kind-moment s Float n h = refl
+kind-moment s Integer n h = refl
+kind-moment s String n h = refl
+kind-moment s Boolean n h = refl
+kind-moment s DateTime n h = absurd (miss kindOnly 6 tt h)
 
 schema-type : (t : Named) → typeName (some t) ≡ SchemaName → t ≡ Schema
 schema-type JSON q = cc
@@ -124,42 +118,45 @@ module _ {s₁ s₂ t₁ t₂ : List ℕ} {r₁ r₂ : ℕ} {x y : Record} {g : 
   type : (t : Named) × (g ≡ typeName (some t)) × (i .given .definition ≡ named-at (y .first) t)
   type = let t = string-type (defined (i .given)) (i .reads) (i .reads .kind ∙ i .string) in (t .0, i .is ∙ ap typeName (t .1), t .2)
 
-  module _ {m : Mismatch} where
-    judge-type : (t : Named) → i .given .definition ≡ named-at (y .first) t → m ≡ namedAt s₁ (y .first) t (i .given .document .tree)
-        → Judged s₁ s₂ t₁ t₂ r₁ r₂ m
-    judge-type t d e = conclude (i .given) (e ∙ sym (ap (λ (d : Located). mismatchAt s₁ d (i .given .document .tree)) d))
+  module _ {m : Mismatch} {ds : List ℤ} where
+    judge-type : {ds₂ : List ℤ} (t : Named) → i .given .definition ≡ named-at (y .first) t
+        → Walks s₁ (value-by (named-at (y .first) t) (i .given .document .tree) ∷ []) m ds ds₂ → Judged s₁ s₂ t₁ t₂ r₁ r₂ m ds ds₂
+    judge-type {ds₂} t d w =
+        conclude (i .given) (subst (λ (d : Located). Walks s₁ (visits s₁ d (i .given .document .tree)) m ds ds₂) (sym d) w)
 
-    pub named-date : g ≡ DateTimeName → JudgedDate s₁ t₁ r₁ (y .first) m → Judged s₁ s₂ t₁ t₂ r₁ r₂ m
+    pub named-date : {ds₂ : List ℤ} → g ≡ DateTimeName → JudgedDate s₁ t₁ r₁ (y .first) m ds ds₂ → Judged s₁ s₂ t₁ t₂ r₁ r₂ m ds ds₂
     named-date q h = judge-type DateTime (type .2 ∙ ap (named-at (y .first)) (date-type (type .0) (sym (type .1) ∙ q))) (h .tells (i .given .document))
 
-    named-unless : (b : Bool) {t : Named} → type .0 ≡ t
+    named-unless : (b : Bool) {t : Named} → type .0 ≡ t → ((n : Node) → namedMoment s₁ t n ≡ [])
         → namedAt s₁ (y .first) t (i .given .document .tree) ≡ unless b (placeOf (i .given .document .tree)) (y .first)
-        → m ≡ unless b (x .first) (y .first) → Judged s₁ s₂ t₁ t₂ r₁ r₂ m
-    named-unless b {t} q h e =
-        judge-type t (type .2 ∙ ap (named-at (y .first)) q) (e ∙ ap (λ (f : ℕ). unless b f (y .first)) (place-read (i .given .document) (i .value)) ∙ sym h)
+        → m ≡ unless b (x .first) (y .first) → Judged s₁ s₂ t₁ t₂ r₁ r₂ m ds ds
+    named-unless b {t} q k h e =
+        let n = i .given .document .tree in
+        judge-type t (type .2 ∙ ap (named-at (y .first)) q)
+        (walks-unless b (placeOf n) (y .first) h (k n) (e ∙ ap (λ (f : ℕ). unless b f (y .first)) (place-read (i .given .document) (i .value))))
 
     module _ (q : g ≡ SchemaName) {f : Fault} (d : Defines s₁ t₁ r₁ f) where
-      named-schema : m ≡ unless (eqb (f .code) 0) (x .first) (y .first) → Judged s₁ s₂ t₁ t₂ r₁ r₂ m
+      named-schema : m ≡ unless (eqb (f .code) 0) (x .first) (y .first) → Judged s₁ s₂ t₁ t₂ r₁ r₂ m ds ds
       named-schema e =
           let n = i .given .document .tree in
           let z : isSome (definitionOf (valueOf s₁ n)) ≡ eqb (f .code) 0 = rw (d .tells (i .given .document)) (is-defined s₁ n) in
-          named-unless (eqb (f .code) 0) (schema-type (type .0) (sym (type .1) ∙ q)) (ap (λ (b : Bool). unless b (placeOf n) (y .first)) z) e
+          named-unless (eqb (f .code) 0) (schema-type (type .0) (sym (type .1) ∙ q)) (λ n. refl) (ap (λ (b : Bool). unless b (placeOf n) (y .first)) z) e
 
-      pub named-defined : f .code ≡ 0 → m ≡ nothing → Judged s₁ s₂ t₁ t₂ r₁ r₂ m
+      pub named-defined : f .code ≡ 0 → m ≡ nothing → Judged s₁ s₂ t₁ t₂ r₁ r₂ m ds ds
       named-defined z e = named-schema (rw (eq-eqb (f .code) 0 z) e)
 
-      pub named-faulty : (f .code ≡ 0 → ⊥) → m ≡ mismatch 20 (x .first) (y .first) → Judged s₁ s₂ t₁ t₂ r₁ r₂ m
+      pub named-faulty : (f .code ≡ 0 → ⊥) → m ≡ mismatch 20 (x .first) (y .first) → Judged s₁ s₂ t₁ t₂ r₁ r₂ m ds ds
       named-faulty z e = named-schema (rw (ne-eqb (f .code) 0 z) e)
 
     module _ (q : OneOf kindOnly (tagOf type-names g)) {b : Bool} (k : b ≡ takesKind g (x .kind)) where
-      named-kind : m ≡ unless b (x .first) (y .first) → Judged s₁ s₂ t₁ t₂ r₁ r₂ m
+      named-kind : m ≡ unless b (x .first) (y .first) → Judged s₁ s₂ t₁ t₂ r₁ r₂ m ds ds
       named-kind e =
           let n = i .given .document .tree in
           let z : takesKind (typeName (some (type .0))) (kindOf n) ≡ b = rw (← type .1, ← kind-read (i .given .document) (i .value)) (sym k) in
-          named-unless b refl (by-kind s₁ (y .first) (type .0) n (rw (type .1) at q) ∙ ap (λ (b : Bool). unless b (placeOf n) (y .first)) z) e
+          named-unless b refl (λ n. kind-moment s₁ (type .0) n (rw (type .1) at q)) (by-kind s₁ (y .first) (type .0) n (rw (type .1) at q) ∙ ap (λ (b : Bool). unless b (placeOf n) (y .first)) z) e
 
-      pub named-takes : b ≡ true → m ≡ nothing → Judged s₁ s₂ t₁ t₂ r₁ r₂ m
+      pub named-takes : b ≡ true → m ≡ nothing → Judged s₁ s₂ t₁ t₂ r₁ r₂ m ds ds
       named-takes z e = named-kind (rw z e)
 
-      pub named-refuses : b ≡ false → m ≡ mismatch 20 (x .first) (y .first) → Judged s₁ s₂ t₁ t₂ r₁ r₂ m
+      pub named-refuses : b ≡ false → m ≡ mismatch 20 (x .first) (y .first) → Judged s₁ s₂ t₁ t₂ r₁ r₂ m ds ds
       named-refuses z e = named-kind (rw z e)

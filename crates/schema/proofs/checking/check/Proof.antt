@@ -9,7 +9,7 @@ abbrev accepting : tie.After-struct-known → tie.After-accept
 accepting c = c .before .before .before
 
 abbrev entry : tie.After-accept → tie.Start
-entry c = c .before .before .before .before .before .before
+entry c = c .before .before .before .before .before .before .before
 
 -- the document was read or not
 abbrev reading : tie.After-struct-known2 → tie.After-read-within
@@ -17,7 +17,7 @@ reading c = c .before .before .before
 
 -- it was judged
 abbrev judging : tie.After-judge → tie.Else2
-judging c = c .before .before .before
+judging c = c .before .before .before .before
 
 -- the schema is accepted, and the document read within a document's limits
 module _ (c : tie.After-read-within) where
@@ -50,7 +50,7 @@ returns-3 c =
 
 returns-4 : tie.Need-returns-4
 returns-4 c =
-    let i = c .before in
+    let i = c .before .before in
     let j = i .before .before in
     let e = judging j in
     check-mismatch (both (reading (e .before))) (e .if2 .left) (j .judge .ensures) (i .if3 .left) (c .new2 .ensures)
@@ -65,12 +65,12 @@ check-spec = tie.close (tie.spec
     (λ c. search needs)  -- same-length-2
     (λ c. search needs)  -- same-length-3
     (λ c. check-unread (both (reading (c .before))) (c .if2 .taken))  -- returns-2
-    (λ c κs. let e = c .before .before in check-judgeable (both (reading (e .before))) (e .if2 .left))  -- judge-requires
+    (λ c κs. let e = c .before .before .before in check-judgeable (both (reading (e .before))) (e .if2 .left))  -- judge-requires
     (λ c κs. search needs)  -- new-requires
     (λ c. search needs)  -- same-length-4
     (λ c. schema (reading (judging (c .before .before .before) .before)) .accept .kept .1 .1 .0)  -- same-length-5
     returns-3
     (λ c κs. search needs)  -- new-requires-2
     (λ c. search needs)  -- same-length-6
-    (λ c. schema (reading (judging (c .before .before .before) .before)) .accept .kept .1 .1 .0)  -- same-length-7
+    (λ c. schema (reading (judging (c .before .before .before .before) .before)) .accept .kept .1 .1 .0)  -- same-length-7
     returns-4)

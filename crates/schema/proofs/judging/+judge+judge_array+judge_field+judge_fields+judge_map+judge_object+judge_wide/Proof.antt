@@ -52,70 +52,71 @@ use Rattle.rows.proofs.row_at.Reads as row
 use Rattle.schema.proofs.judging.+judge+judge_array+judge_field+judge_fields+judge_map+judge_object+judge_wide.{statement}
 use Rattle.schema.proofs.judging.+judge+judge_array+judge_field+judge_fields+judge_map+judge_object+judge_wide.Tie.{close}
 
-abbrev μ-judge : Measures 4 judge-kinds.ps ℕ
+abbrev μ-judge : Measures 5 judge-kinds.ps ℕ
 μ-judge κs a = 3 * word (a .1 .1 .1 .0 .now) (a .1 .1 .1 .1 .1 .0) 4 + 1
 
 -- of `judge_array`, `judge_map` and `judge_object`
-abbrev μ-inside : Measures 4 judge-kinds.ps ℕ
+abbrev μ-inside : Measures 5 judge-kinds.ps ℕ
 μ-inside κs a = 3 * word (a .1 .1 .1 .0 .now) (a .1 .1 .1 .1 .1 .0) 4
 
-abbrev μ-field : Measures 4 field-kinds.ps ℕ
+abbrev μ-field : Measures 5 field-kinds.ps ℕ
 μ-field κs a = 3 * word (a .1 .1 .1 .0 .now) (a .1 .1 .1 .1 .1 .1 .0 + 1) 4 + 2
 
-abbrev μ-fields : Measures 4 fields-kinds.ps ℕ
+abbrev μ-fields : Measures 5 fields-kinds.ps ℕ
 μ-fields κs a = 3 * partRows (a .1 .1 .1 .0 .now) (a .1 .1 .1 .1 .1 .0) + 1
 
-abbrev μ-wide : Measures 4 fields-kinds.ps ℕ
+abbrev μ-wide : Measures 5 fields-kinds.ps ℕ
 μ-wide κs a = 3 * partRows (a .1 .1 .1 .0 .now) (a .1 .1 .1 .1 .1 .0) + 2
 
 abbrev array-inv : array-lts.InvT-loop
-array-inv document schema rows1 rows2 at by left₀ row₀ left row = InArray document schema rows1 rows2 at by row left
+array-inv document schema rows1 rows2 at by dates₀ left₀ row₀ dates left row = InArray document schema rows1 rows2 at by row left dates₀ dates
 
 abbrev map-inv : map-lts.InvT-loop
-map-inv document schema rows1 rows2 at by left₀ row₀ left row = InMap document schema rows1 rows2 at by row left
+map-inv document schema rows1 rows2 at by dates₀ left₀ row₀ dates left row = InMap document schema rows1 rows2 at by row left dates₀ dates
 
 -- of both loops
 abbrev values-left : array-lts.MeasureT-loop
-values-left document schema rows1 rows2 at by left₀ row₀ left row = left
+values-left document schema rows1 rows2 at by dates₀ left₀ row₀ dates left row = left
 
 abbrev fields-inv : fields-lts.InvT-loop
-fields-inv document schema rows1 rows2 at fields required left₀ row₀ left row = InFields document schema rows1 rows2 at fields required row left
+fields-inv document schema rows1 rows2 at fields required dates₀ left₀ row₀ dates left row =
+    InFields document schema rows1 rows2 at fields required row left dates₀ dates
 
 abbrev fields-left : fields-lts.MeasureT-loop
-fields-left document schema rows1 rows2 at fields required left₀ row₀ left row = left
+fields-left document schema rows1 rows2 at fields required dates₀ left₀ row₀ dates left row = left
 
 abbrev wide-inv : wide-lts.InvT-loop
-wide-inv document schema rows1 rows2 at fields required names values count i₀ row₀ i row =
-    InWide document schema rows1 rows2 at fields required values count i row
+wide-inv document schema rows1 rows2 at fields required dates₀ names values count i₀ row₀ dates i row =
+    InWide document schema rows1 rows2 at fields required values count i row dates₀ dates
 
 abbrev wide-left : wide-lts.MeasureT-loop
-wide-left document schema rows1 rows2 at fields required names values count i₀ row₀ i row = count - i
+wide-left document schema rows1 rows2 at fields required dates₀ names values count i₀ row₀ dates i row = count - i
 
 -- t is the measure of the call that is proved, and those that it makes have a smaller one
 module _ (t : ℕ) where
-  abbrev at : Measures 4 judge-kinds.ps ℕ → In 4 judge-kinds.ps → In 4 judge-kinds.ps
-  at μ Pre = and 4 judge-kinds.ps (is 4 judge-kinds.ps μ t) Pre
+  abbrev at : Measures 5 judge-kinds.ps ℕ → In 5 judge-kinds.ps → In 5 judge-kinds.ps
+  at μ Pre = and 5 judge-kinds.ps (is 5 judge-kinds.ps μ t) Pre
 
-  abbrev below : Measures 4 judge-kinds.ps ℕ → In 4 judge-kinds.ps → In 4 judge-kinds.ps
-  below μ Pre = and 4 judge-kinds.ps (falls 4 judge-kinds.ps _<_ μ t) Pre
+  abbrev below : Measures 5 judge-kinds.ps ℕ → In 5 judge-kinds.ps → In 5 judge-kinds.ps
+  below μ Pre = and 5 judge-kinds.ps (falls 5 judge-kinds.ps _<_ μ t) Pre
 
-  abbrev field-at : In 4 field-kinds.ps
-  field-at = and 4 field-kinds.ps (is 4 field-kinds.ps μ-field t) field.Pre
+  abbrev field-at : In 5 field-kinds.ps
+  field-at = and 5 field-kinds.ps (is 5 field-kinds.ps μ-field t) field.Pre
 
-  abbrev field-below : In 4 field-kinds.ps
-  field-below = and 4 field-kinds.ps (falls 4 field-kinds.ps _<_ μ-field t) field.Pre
+  abbrev field-below : In 5 field-kinds.ps
+  field-below = and 5 field-kinds.ps (falls 5 field-kinds.ps _<_ μ-field t) field.Pre
 
-  abbrev fields-at : In 4 fields-kinds.ps
-  fields-at = and 4 fields-kinds.ps (is 4 fields-kinds.ps μ-fields t) fields.Pre
+  abbrev fields-at : In 5 fields-kinds.ps
+  fields-at = and 5 fields-kinds.ps (is 5 fields-kinds.ps μ-fields t) fields.Pre
 
-  abbrev fields-below : In 4 fields-kinds.ps
-  fields-below = and 4 fields-kinds.ps (falls 4 fields-kinds.ps _<_ μ-fields t) fields.Pre
+  abbrev fields-below : In 5 fields-kinds.ps
+  fields-below = and 5 fields-kinds.ps (falls 5 fields-kinds.ps _<_ μ-fields t) fields.Pre
 
-  abbrev wide-at : In 4 fields-kinds.ps
-  wide-at = and 4 fields-kinds.ps (is 4 fields-kinds.ps μ-wide t) wide.Pre
+  abbrev wide-at : In 5 fields-kinds.ps
+  wide-at = and 5 fields-kinds.ps (is 5 fields-kinds.ps μ-wide t) wide.Pre
 
-  abbrev wide-below : In 4 fields-kinds.ps
-  wide-below = and 4 fields-kinds.ps (falls 4 fields-kinds.ps _<_ μ-wide t) wide.Pre
+  abbrev wide-below : In 5 fields-kinds.ps
+  wide-below = and 5 fields-kinds.ps (falls 5 fields-kinds.ps _<_ μ-wide t) wide.Pre
 
   -- ---- judge
 
@@ -193,6 +194,7 @@ module _ (t : ℕ) where
 
     array-here : let a = array-top .args in
         Turn (a .document .now) (a .schema .now) (a .rows1 .now) (a .rows2 .now) (a .at) (a .by) (c .before .loop .row)
+        (a .dates .now) (c .before .loop .dates)
     array-here = array-turn (c .before .loop .inv) (c .loop-test .taken)
 
   -- ---- judge_field
@@ -243,6 +245,7 @@ module _ (t : ℕ) where
     fields-sought : let a = fields-top fields-turn .args in
         FieldSought (a .document .now) (a .schema .now) (a .rows1 .now) (a .rows2 .now) (a .at) (a .fields) (a .required)
         (fields-turn .before .loop .row) (fields-turn .before .loop .left) (c .find .result)
+        (a .dates .now) (fields-turn .before .loop .dates)
     fields-sought =
         let n = c .before .before .row-at2 .ensures in
         record {
@@ -267,6 +270,7 @@ module _ (t : ℕ) where
 
     map-here : let a = map-top .args in
         Turn (a .document .now) (a .schema .now) (a .rows1 .now) (a .rows2 .now) (a .at) (a .by) (c .before .loop .row)
+        (a .dates .now) (c .before .loop .dates)
     map-here = map-turn (c .before .loop .inv) (c .loop-test .taken)
 
   -- ---- judge_object
@@ -311,12 +315,12 @@ module _ (t : ℕ) where
   -- few members
   module _ (c : object-lts.After-judge-fields object-claims (at μ-inside object.Pre) object.Post) where
     abbrev few-parts : object-lts.After-find2 object-claims (at μ-inside object.Pre) object.Post
-    few-parts = c .before .before .before
+    few-parts = c .before .before .before .before
 
   -- many
   module _ (c : object-lts.After-judge-wide object-claims (at μ-inside object.Pre) object.Post) where
     abbrev many-parts : object-lts.After-find2 object-claims (at μ-inside object.Pre) object.Post
-    many-parts = c .before .before .before
+    many-parts = c .before .before .before .before
 
   -- ---- judge_wide
 
@@ -362,7 +366,7 @@ module _ (t : ℕ) where
         let l = c .before .loop in
         FieldSought (a .document .now) (a .schema .now) (a .rows1 .now) (a .rows2 .now) (a .at) (a .fields) (a .required)
         (l .row) (wide-names wide-many .row-at .result .children - l .i)
-        (getD (c .before .before .match-names .last .1 .1 .1 .1 .1 .1 .0) (l .i) 0)
+        (getD (c .before .before .match-names .last .1 .1 .1 .1 .1 .1 .0) (l .i) 0) (a .dates .now) (l .dates)
     wide-here = wide-sought (c .before .loop .inv) (c .loop-test .taken)
 
     wide-room : c .before .loop .i < mostNames
@@ -374,17 +378,20 @@ pub +judge+judge-array+judge-field+judge-fields+judge-map+judge-object+judge-wid
     -- ---- judge
     (λ t. judge-lts.spec (judge-claims t) (at t μ-judge judge.Pre) judge.Post
     (λ c κs. in-table (judge-entry t c .pre .1 .schema))  -- row-at-requires
-    (λ c κs. let r = c .before .before in (judge-entry t (r .before) .pre .1, sym (r .row-at .ensures .kind) ∙ c .if1 .taken))  -- judge-named-requires
+    (λ c κs. let i = c .before in let r = i .before .before in
+    (judge-entry t (r .before) .pre .1, sym (r .row-at .ensures .kind) ∙ i .if1 .taken))  -- judge-named-requires
     (λ c. c .judge-named .ensures)  -- returns
     (λ c. omega (arith, judge-under t c .in-table .here, judge-start t c .good))  -- add-row-at
     (λ c κs. judge-under t c .in-table)  -- row-at-requires-2
     (λ c κs. quotes-read (c .row-at2 .ensures) (judge-under t (c .before) .quoted))  -- between-requires
     (λ c κs. tt)  -- generic-name-requires
     (λ c. search needs)  -- enum-told
-    (λ c κs. let g = c .before .before in (judge-less t g, reads-array (judge-generic t g) (c .enum-told .given .1)))  -- judge-array-requires
+    (λ c κs. let e = c .before in let g = e .before .before in
+    (judge-less t g, reads-array (judge-generic t g) (e .enum-told .given .1)))  -- judge-array-requires
     (λ c. search needs)  -- enum-told-2
-    (λ c κs. let g = c .before .before in (judge-less t g, reads-map (judge-generic t g) (c .enum-told2 .given .1)))  -- judge-map-requires
-    (λ c κs. (judge-less t (c .before), reads-object (judge-generic t (c .before)) (c .match .keys3)))  -- judge-object-requires
+    (λ c κs. let e = c .before in let g = e .before .before in
+    (judge-less t g, reads-map (judge-generic t g) (e .enum-told2 .given .1)))  -- judge-map-requires
+    (λ c κs. let m = c .before in let g = m .before in (judge-less t g, reads-object (judge-generic t g) (m .match .keys3)))  -- judge-object-requires
     (λ c. c .judge-array .ensures)  -- returns-2
     (λ c. c .judge-map .ensures)  -- returns-3
     (λ c. c .judge-object .ensures))  -- returns-4
@@ -398,20 +405,20 @@ pub +judge+judge-array+judge-field+judge-fields+judge-map+judge-object+judge-wid
     (λ c. let s = array-entry t (c .before) in omega (arith, in-table (s .pre .1 .given .document) .here, s .good))  -- add-row
     (λ c. let r = c .before in array-start (array-entry t r .pre .1) (r .before .row-at .ensures) (c .if1 .left))  -- loop-holds
     (λ c. omega (arith, in-table (array-here t c .one .schema) .here, array-top t c .good))  -- add-judge
-    (λ c κs. (omega (arith, array-here t c .less, array-top t c .pre .0), array-here t c .one))  -- judge-requires
-    (λ c. let k = c .before .before in turn-stops (array-here t (k .before)) (k .judge .ensures) (c .if2 .taken))  -- returns-2
-    (λ c κs. in-table (array-here t (c .before .before .before) .one .document))  -- row-at-requires-3
+    (λ c κs. let i = c .before in (omega (arith, array-here t i .less, array-top t i .pre .0), array-here t i .one))  -- judge-requires
+    (λ c. let k = c .before .before in turn-stops (array-here t (k .before .before)) (k .judge .ensures) (c .if2 .taken))  -- returns-2
+    (λ c κs. in-table (array-here t (c .before .before .before .before) .one .document))  -- row-at-requires-3
     (λ c. omega arith)  -- sub-left
     (λ c. omega arith)  -- loop-less
-    (λ c. let e = c .before in let k = e .before .before in let i = k .before in
+    (λ c. let e = c .before in let k = e .before .before in let i = k .before .before in
     array-next (i .before .loop .inv) (i .loop-test .taken) (k .judge .ensures) (e .if2 .left) (c .row-at3 .ensures))  -- loop-again
     (λ c κs. tt)  -- none-requires
     (λ c. let o = c .before in array-end (o .before .loop .inv) (o .loop-test .left) (c .none .ensures)))  -- returns-3
     -- ---- judge_field
     (λ t. field-lts.spec (field-claims t) (field-at t) field.Post
     (λ c. let s = field-entry t (c .before) in omega (arith, in-table (s .pre .1 .schema) .here, s .good))  -- add-judge
-    (λ c κs. let s = field-entry t (c .before) in (omega (arith, s .pre .0), field-value (s .pre .1) (c .if1 .taken)))  -- judge-requires
-    (λ c. field-found (c .before .if1 .taken) (c .judge .ensures))  -- returns
+    (λ c κs. let i = c .before in let s = field-entry t (i .before) in (omega (arith, s .pre .0), field-value (s .pre .1) (i .if1 .taken)))  -- judge-requires
+    (λ c. field-found (c .before .before .if1 .taken) (c .judge .ensures))  -- returns
     (λ c κs. in-table (as-row (field-entry t (c .before .before) .pre .1 .document)))  -- row-at-requires
     (λ c κs. field-entry t (c .before .before .before) .pre .1 .name)  -- row-at-requires-2
     (λ c κs. tt)  -- at-requires
@@ -429,14 +436,15 @@ pub +judge+judge-array+judge-field+judge-fields+judge-map+judge-object+judge-wid
     (λ c κs. fields-here t c .name)  -- row-at-requires-2
     (λ c κs. quotes-read (c .row-at2 .ensures) (fields-here t (c .before) .quoted))  -- between-requires
     (λ c κs. fields-top t (c .before .before) .pre .1 .document)  -- find-requires
-    (λ c κs. let i = fields-sought t c in (omega (arith, field-rows i, fields-top t (fields-turn t c) .pre .0), field-judgeable i))  -- judge-field-requires
-    (λ c. let j = c .before .before in field-fails (fields-sought t (j .before)) (j .judge-field .ensures) (c .if2 .taken))  -- returns-2
-    (λ c. let i = fields-turn t (c .before .before .before) in omega (arith, in-table (fields-here t i .row .row) .here, fields-top t i .good))  -- add-row-at
-    (λ c κs. in-table (fields-here t (fields-turn t (c .before .before .before)) .row .row))  -- row-at-requires-3
+    (λ c κs. let f = c .before in let i = fields-sought t f in
+    (omega (arith, field-rows i, fields-top t (fields-turn t f) .pre .0), field-judgeable i))  -- judge-field-requires
+    (λ c. let j = c .before .before in field-fails (fields-sought t (j .before .before)) (j .judge-field .ensures) (c .if2 .taken))  -- returns-2
+    (λ c. let i = fields-turn t (c .before .before .before .before) in omega (arith, in-table (fields-here t i .row .row) .here, fields-top t i .good))  -- add-row-at
+    (λ c κs. in-table (fields-here t (fields-turn t (c .before .before .before .before)) .row .row))  -- row-at-requires-3
     (λ c. omega arith)  -- sub-left
     (λ c. omega arith)  -- loop-less
     (λ c. let e = c .before in let j = e .before .before in
-    field-next (fields-sought t (j .before)) (j .judge-field .ensures) (e .if2 .left) (c .row-at3 .ensures))  -- loop-again
+    field-next (fields-sought t (j .before .before)) (j .judge-field .ensures) (e .if2 .left) (c .row-at3 .ensures))  -- loop-again
     (λ c κs. tt)  -- none-requires-2
     (λ c. let o = c .before in fields-judged (o .before .loop .inv) (o .loop-test .left) (c .none2 .ensures)))  -- returns-3
     -- ---- judge_map
@@ -449,15 +457,15 @@ pub +judge+judge-array+judge-field+judge-fields+judge-map+judge-object+judge-wid
     (λ c. let s = map-entry t (c .before) in omega (arith, in-table (s .pre .1 .given .document) .here, s .good))  -- add-row
     (λ c. let r = c .before in map-start (map-entry t r .pre .1) (r .before .row-at .ensures) (c .if1 .left))  -- loop-holds
     (λ c. omega (arith, in-table (map-here t c .one .schema) .here, map-top t c .good))  -- add-judge
-    (λ c κs. (omega (arith, map-here t c .less, map-top t c .pre .0), map-here t c .one))  -- judge-requires
-    (λ c. let k = c .before .before in turn-stops (map-here t (k .before)) (k .judge .ensures) (c .if2 .taken))  -- returns-2
-    (λ c κs. in-table (map-here t (c .before .before .before) .one .document))  -- row-at-requires-3
-    (λ c. let r = c .before in let k = r .before .before .before in
-    omega (arith, row-behind (map-here t (k .before) .one .document) (r .row-at3 .ensures .next), map-top t (k .before) .good))  -- add-row-2
+    (λ c κs. let i = c .before in (omega (arith, map-here t i .less, map-top t i .pre .0), map-here t i .one))  -- judge-requires
+    (λ c. let k = c .before .before in turn-stops (map-here t (k .before .before)) (k .judge .ensures) (c .if2 .taken))  -- returns-2
+    (λ c κs. in-table (map-here t (c .before .before .before .before) .one .document))  -- row-at-requires-3
+    (λ c. let r = c .before in let i = r .before .before .before .before .before in
+    omega (arith, row-behind (map-here t i .one .document) (r .row-at3 .ensures .next), map-top t i .good))  -- add-row-2
     (λ c. omega arith)  -- sub-left
     (λ c. omega arith)  -- loop-less
-    (λ c. let r = c .before in let e = r .before in let k = e .before .before in
-    map-next (k .before .before .loop .inv) (k .before .loop-test .taken) (k .judge .ensures) (e .if2 .left) (r .row-at3 .ensures))  -- loop-again
+    (λ c. let r = c .before in let e = r .before in let k = e .before .before in let i = k .before .before in
+    map-next (i .before .loop .inv) (i .loop-test .taken) (k .judge .ensures) (e .if2 .left) (r .row-at3 .ensures))  -- loop-again
     (λ c κs. tt)  -- none-requires
     (λ c. let o = c .before in map-end (o .before .loop .inv) (o .loop-test .left) (c .none .ensures)))  -- returns-3
     -- ---- judge_object
@@ -473,21 +481,21 @@ pub +judge+judge-array+judge-field+judge-fields+judge-map+judge-object+judge-wid
     (λ c. let e = c .before .before in omega (arith, in-table (as-row (object-body t e .body .object)) .here, object-top t e .good))  -- add-find-2
     (λ c. search needs)  -- slice-aggregate-find-2
     (λ c κs. object-body t (c .before .before .before) .body .object)  -- find-requires-2
-    (λ c κs. let p = c .before .before in let g = required-given (parts-body t p) (required-found t p) in
+    (λ c κs. let p = c .before .before .before in let g = required-given (parts-body t p) (required-found t p) in
     (omega (arith, g .less, parts-top t p .pre .0), g .given))  -- judge-fields-requires
     (λ c. let j = c .before .before in let p = few-parts t j in
     required-stops (parts-body t p) (required-found t p) (j .judge-fields .ensures) (c .if3 .taken))  -- returns-2
-    (λ c κs. let p = few-parts t (c .before .before) in let g = optional-given (parts-body t p) (optional-found t p) in
+    (λ c κs. let p = few-parts t (c .before .before .before) in let g = optional-given (parts-body t p) (optional-found t p) in
     (omega (arith, g .less, parts-top t p .pre .0), g .given))  -- judge-fields-requires-2
-    (λ c. let e = c .before in let j = e .before .before in let p = few-parts t j in
+    (λ c. let e = c .before .before in let j = e .before .before in let p = few-parts t j in
     optional-ends (parts-body t p) (required-found t p) (j .judge-fields .ensures) (e .if3 .left) (optional-found t p) (c .judge-fields2 .ensures))  -- returns-3
-    (λ c κs. let p = c .before .before in let g = required-given (parts-body t p) (required-found t p) in
+    (λ c κs. let p = c .before .before .before in let g = required-given (parts-body t p) (required-found t p) in
     (omega (arith, g .less, parts-top t p .pre .0), g .given))  -- judge-wide-requires
     (λ c. let j = c .before .before in let p = many-parts t j in
     required-stops (parts-body t p) (required-found t p) (j .judge-wide .ensures) (c .if4 .taken))  -- returns-4
-    (λ c κs. let p = many-parts t (c .before .before) in let g = optional-given (parts-body t p) (optional-found t p) in
+    (λ c κs. let p = many-parts t (c .before .before .before) in let g = optional-given (parts-body t p) (optional-found t p) in
     (omega (arith, g .less, parts-top t p .pre .0), g .given))  -- judge-wide-requires-2
-    (λ c. let e = c .before in let j = e .before .before in let p = many-parts t j in
+    (λ c. let e = c .before .before in let j = e .before .before in let p = many-parts t j in
     optional-ends (parts-body t p) (required-found t p) (j .judge-wide .ensures) (e .if4 .left) (optional-found t p) (c .judge-wide2 .ensures)))  -- returns-5
     -- ---- judge_wide
     λ t. wide-lts.spec (wide-claims t) (wide-at t) wide.Post wide-inv wide-left
@@ -496,7 +504,7 @@ pub +judge+judge-array+judge-field+judge-fields+judge-map+judge-object+judge-wid
     (λ c κs. in-table (as-row (wide-object t c)))  -- row-at-requires
     (λ c κs. in-table (as-row (wide-given t (c .before) .pre .1 .document)))  -- row-at-requires-2
     (λ c κs. tt)  -- wide-requires
-    (λ c κs. let s = wide-given t (c .before .before .before .before) in (omega (arith, s .pre .0), s .pre .1))  -- judge-fields-requires
+    (λ c κs. let s = wide-given t (c .before .before .before .before .before) in (omega (arith, s .pre .0), s .pre .1))  -- judge-fields-requires
     (λ c. c .judge-fields .ensures)  -- returns-2
     (λ c κs. let m = c .before in let f = wide-some t m in
     (wide-given t f .pre .1 .document, (wide-object t f, (wide-few t m, length-replicate {A = ℕ} mostNames 0))))  -- match-names-requires
@@ -506,13 +514,13 @@ pub +judge+judge-array+judge-field+judge-fields+judge-map+judge-object+judge-wid
     wide-start (wide-given t f .pre .1) (wide-row t f) e (omega (arith, e, wide-few t m)) (c .match-names .ensures))  -- loop-holds
     (λ c. omega (arith, wide-room t c))  -- mul-value
     (λ c. omega (arith, wide-room t c))  -- array-read-value
-    (λ c κs. let i = wide-here t c in (omega (arith, field-rows i, wide-top t c .pre .0), field-judgeable i))  -- judge-field-requires
-    (λ c. let j = c .before .before in field-fails (wide-here t (j .before)) (j .judge-field .ensures) (c .if3 .taken))  -- returns-3
-    (λ c. let i = c .before .before .before in omega (arith, in-table (sought-field (wide-here t i) .row .row) .here, wide-top t i .good))  -- add-row-at
-    (λ c κs. in-table (sought-field (wide-here t (c .before .before .before)) .row .row))  -- row-at-requires-3
-    (λ c. omega (arith, wide-room t (c .before .before .before .before)))  -- add-i
+    (λ c κs. let i = wide-here t (c .before) in (omega (arith, field-rows i, wide-top t (c .before) .pre .0), field-judgeable i))  -- judge-field-requires
+    (λ c. let j = c .before .before in field-fails (wide-here t (j .before .before)) (j .judge-field .ensures) (c .if3 .taken))  -- returns-3
+    (λ c. let i = c .before .before .before .before in omega (arith, in-table (sought-field (wide-here t i) .row .row) .here, wide-top t i .good))  -- add-row-at
+    (λ c κs. in-table (sought-field (wide-here t (c .before .before .before .before)) .row .row))  -- row-at-requires-3
+    (λ c. omega (arith, wide-room t (c .before .before .before .before .before)))  -- add-i
     (λ c. omega arith)  -- loop-less
-    (λ c. let e = c .before in let j = e .before .before in let i = j .before in
+    (λ c. let e = c .before in let j = e .before .before in let i = j .before .before in
     wide-next (i .before .loop .inv) (i .loop-test .taken) (j .judge-field .ensures) (e .if3 .left) (c .row-at3 .ensures))  -- loop-again
     (λ c κs. tt)  -- none-requires-2
     (λ c. let o = c .before in wide-end (o .before .loop .inv) (o .loop-test .left) (c .none2 .ensures))  -- returns-4

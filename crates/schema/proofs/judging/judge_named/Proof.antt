@@ -66,7 +66,7 @@ judge-named-spec = tie.close (tie.spec
     (λ c κs. tt)  -- named-type-requires
     (λ c κs. tt)  -- takes-requires
     (λ c. search needs)  -- enum-told
-    (λ c κs. read (c .before .before .before) .given .document)  -- judge-date-requires
+    (λ c κs. read (c .before .before .before .before) .given .document)  -- judge-date-requires
     (λ c. search needs)  -- enum-told-2
     (λ c κs. read (c .before .before .before) .given .document)  -- define-requires
     (λ c κs. tt)  -- none-requires
@@ -75,6 +75,6 @@ judge-named-spec = tie.close (tie.spec
     (λ c κs. tt)  -- none-requires-2
     returns-2
     (λ c κs. tt)  -- at-requires-2
-    (λ c. let t = c .before in named-date (read (t .before .before .before)) (t .enum-told .given .1) (c .judge-date .ensures))  -- returns-3
+    (λ c. let t = c .before .before in named-date (read (t .before .before .before)) (t .enum-told .given .1) (c .judge-date .ensures))  -- returns-3
     returns-4
     returns-5)
