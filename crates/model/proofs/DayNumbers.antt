@@ -127,7 +127,7 @@ module _ (y m d : ℕ) (c : OnCalendar y m d) where
 pub count-most : (y m d : ℕ) → inCalendar (on y m d) ≡ true → y ≤ 9999 → dayCount (on y m d) ≤ 3652424
 count-most y m d h k = omega (arith, in-year y m d (on-calendar y m d h), years-rise (y + 1) 10000 (omega arith), years-closed 10000)
 
-after-count : (y m d : ℕ) → inCalendar (on y m d) ≡ true → dayCount (dayAfter (on y m d)) ≡ dayCount (on y m d) + 1
+pub after-count : (y m d : ℕ) → inCalendar (on y m d) ≡ true → dayCount (dayAfter (on y m d)) ≡ dayCount (on y m d) + 1
 unfolding dayCount
 after-count y m d h =
     let c = on-calendar y m d h in
@@ -154,7 +154,7 @@ Before x z =
     (x .year < z .year)
     ⊎ ((x .year ≡ z .year) × ((x .month < z .month) ⊎ ((x .month ≡ z .month) × (x .day < z .day))))
 
-rises : (x z : Day) → inCalendar x ≡ true → Before x z → dayCount x < dayCount z
+pub rises : (x z : Day) → inCalendar x ≡ true → Before x z → dayCount x < dayCount z
 unfolding dayCount
 rises x z h (inl e) =
     let c = on-calendar (x .year) (x .month) (x .day) h in

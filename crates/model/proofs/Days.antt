@@ -63,7 +63,7 @@ before-after y m d h =
     (λ e f. before-year (y + 1) ∙ (let g : y + 1 - 1 ≡ y = omega arith in rw (g, e, f) refl))
 
 -- the calendar has the day after
-after-in : (y m d : ℕ) → inCalendar (on y m d) ≡ true → inCalendar (dayAfter (on y m d)) ≡ true
+pub after-in : (y m d : ℕ) → inCalendar (on y m d) ≡ true → inCalendar (dayAfter (on y m d)) ≡ true
 after-in y m d h =
     let c = on-calendar y m d h in
     after-ways (λ (x : Day). inCalendar x ≡ true) y m d c

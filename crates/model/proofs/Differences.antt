@@ -4,7 +4,7 @@ use mathlib.Core.Path.{_≡_, refl, sym, ap, ap₂, _∙_}
 use mathlib.Core.Bool.{true}
 use native.Mathlib.Omega.{arith}
 use lib.Dec.{ltb}
-use lib.IntN.{ℤ, pos, negsuc, negℤ, natAbs, subℕ, _+ℤ_, _-ℤ_, _*ℤ_, +ℤ-assoc, +ℤ-comm, -ℤ-+ℤ-cancel, negℤ-+ℤ, zero-*ℤ, sucℤ-*ℤ}
+use lib.IntN.{ℤ, pos, negsuc, negℤ, natAbs, subℕ, _+ℤ_, _-ℤ_, _*ℤ_, +ℤ-assoc, +ℤ-comm, -ℤ-+ℤ-cancel, +ℤ-negℤ-cancel, negℤ-+ℤ, zero-*ℤ, sucℤ-*ℤ}
 use lib.Signed.{ltZ, leZ}
 use borrow.Author.Tests.{ltb-true, ltb-false, lt-ltb, le-leb}
 use Rattle.model.proofs.Basics.{both}
@@ -46,6 +46,16 @@ module _ (a b k : ℕ) where
 
   pub sub-less : pos a -ℤ pos b -ℤ pos k ≡ pos a -ℤ pos (b + k)
   sub-less = +ℤ-assoc (pos a) (negℤ (pos b)) (negℤ (pos k)) ∙ ap (λ (z : ℤ). pos a +ℤ z) (sym (negℤ-+ℤ (pos b) (pos k)))
+
+-- two differences with the same sums across
+pub sub-cross : (a b c d : ℕ) → a + d ≡ c + b → pos a -ℤ pos b ≡ pos c -ℤ pos d
+sub-cross a b c d e =
+    let f : b + d ≡ d + b = omega arith in
+    sym (alike a b d) ∙ ap₂ (λ (x y : ℕ). pos x -ℤ pos y) e f ∙ alike c d b
+  where
+    -- both numbers greater by k
+    alike : (a b k : ℕ) → pos (a + k) -ℤ pos (b + k) ≡ pos a -ℤ pos b
+    alike a b k = sym (sub-less (a + k) b k) ∙ ap (λ (z : ℤ). z -ℤ pos k) (sym (sub-more a b k)) ∙ +ℤ-negℤ-cancel (pos a -ℤ pos b) (pos k)
 
 pub sub-times : (k a b : ℕ) → pos k *ℤ (pos a -ℤ pos b) ≡ pos (k * a) -ℤ pos (k * b)
 sub-times zero a b =

@@ -37,6 +37,14 @@ module _ (x : Day) (n : ℕ) where
       (λ t. f (omega (arith, e, ltb-true n 1440 t)))
       (λ t. g (omega (arith, e, ltb-false n 1440 t)))))
 
+  leap-ways : {A : Type 0} → n < 4319 → leaps ≡ true → (n ≡ 1439 → endsHalf (dayBefore x) ≡ true → A) → (n ≡ 2879 → endsHalf x ≡ true → A) → A
+  leap-ways h t f g =
+      by-test (eqb n 1439)
+      (λ a. let e = eqb-true n 1439 a in f e (sym (on-eve e) ∙ t))
+      (λ a. by-test (eqb n 2879)
+      (λ b. let e = eqb-true n 2879 b in g e (sym (on-day e) ∙ t))
+      (λ b. clash leaps t (off-minute h (eqb-false n 1439 a) (eqb-false n 2879 b))))
+
   -- the seconds of the minute
   module _ (k : ℕ) where
     pub has-59 : k ≤ 59 → hasSecond k x n ≡ true
@@ -60,11 +68,9 @@ leap-minute x time z a =
     let n = time + behindUtc z in
     let b = offset-less 0x2B z in
     let c = offset-less 0x2D z in (
-      λ h. by-test (eqb n 1439)
-          (λ t. let e = eqb-true n 1439 t in inr (sym (on-eve x n e) ∙ h, omega (arith, e, b, c)))
-          (λ f. by-test (eqb n 2879)
-          (λ t. let e = eqb-true n 2879 t in inl (sym (on-day x n e) ∙ h, omega (arith, e, b, c)))
-          (λ g. clash (leaps x n) h (off-minute x n (omega (arith, a, behind-range z .1)) (eqb-false n 1439 f) (eqb-false n 2879 g)))),
+      λ h. leap-ways x n (omega (arith, a, behind-range z .1)) h
+          (λ e t. inr (t, omega (arith, e, b, c)))
+          (λ e t. inl (t, omega (arith, e, b, c))),
       λ w. ⊎-elim (λ u. on-day x n (omega (arith, u .1, b, c)) ∙ u .0) (λ u. on-eve x n (omega (arith, u .1, b, c)) ∙ u .0) w,
     )
 
@@ -87,7 +93,7 @@ leap-next y m d n h k =
 
 -- the moved time of what is written like a date is short
 module _ (s : List ℕ) (w : isWritten s ≡ true) where
-  moved-short : movedTime s < 4319
+  pub moved-short : movedTime s < 4319
   moved-short = omega (arith, clock-less s 11 (day-time s w .1), behind-range (zoneOf (drop 19 s)))
 
   by-second : isDate s ≡ hasSecond (two s 17) (dayOf s) (movedTime s)
@@ -104,6 +110,11 @@ module _ (s : List ℕ) (w : isWritten s ≡ true) where
   module _ (e : two s 17 ≡ 60) where
     pub second-60 : isDate s ≡ isLeapMinute (utcDay (dayOf s) (movedTime s)) (utcMinute (movedTime s))
     second-60 = by-second ∙ has-60 (dayOf s) (movedTime s) (two s 17) e
+
+    -- by the moved time
+    pub second-60-ways : {A : Type 0} → isDate s ≡ true
+        → (movedTime s ≡ 1439 → endsHalf (dayBefore (dayOf s)) ≡ true → A) → (movedTime s ≡ 2879 → endsHalf (dayOf s) ≡ true → A) → A
+    second-60-ways h = leap-ways (dayOf s) (movedTime s) moved-short (sym second-60 ∙ h)
 
     -- the same by what is written, with nothing moved
     pub second-60-written : let z = zoneOf (drop 19 s) in
