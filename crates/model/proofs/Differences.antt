@@ -9,6 +9,7 @@ use lib.Signed.{ltZ, leZ}
 use borrow.Author.Tests.{ltb-true, ltb-false, lt-ltb, le-leb}
 use Rattle.model.proofs.Basics.{both}
 
+-- the difference of two integers is that of the numbers
 pub sub-back : (a b : ℕ) → pos a -ℤ pos b ≡ subℕ a b
 sub-back a zero = both (λ (z : ℤ). pos (a + 0) ≡ z) (ltb a 0) (λ e. absurd (omega (arith, ltb-true a 0 e))) (λ _. ap pos (omega arith))
 sub-back a (suc b) = refl
@@ -57,6 +58,7 @@ sub-cross a b c d e =
     alike : (a b k : ℕ) → pos (a + k) -ℤ pos (b + k) ≡ pos a -ℤ pos b
     alike a b k = sym (sub-less (a + k) b k) ∙ ap (λ (z : ℤ). z -ℤ pos k) (sym (sub-more a b k)) ∙ +ℤ-negℤ-cancel (pos a -ℤ pos b) (pos k)
 
+-- a multiple of a difference
 pub sub-times : (k a b : ℕ) → pos k *ℤ (pos a -ℤ pos b) ≡ pos (k * a) -ℤ pos (k * b)
 sub-times zero a b =
     let e : 0 * a ≡ 0 = omega arith in

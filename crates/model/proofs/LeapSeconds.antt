@@ -37,6 +37,7 @@ module _ (x : Day) (n : ℕ) where
       (λ t. f (omega (arith, e, ltb-true n 1440 t)))
       (λ t. g (omega (arith, e, ltb-false n 1440 t)))))
 
+  -- where it is 23:59 on such a day, it is that of one of these two
   leap-ways : {A : Type 0} → n < 4319 → leaps ≡ true → (n ≡ 1439 → endsHalf (dayBefore x) ≡ true → A) → (n ≡ 2879 → endsHalf x ≡ true → A) → A
   leap-ways h t f g =
       by-test (eqb n 1439)
