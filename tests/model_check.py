@@ -215,9 +215,14 @@ def is_date(characters):
             and hour <= 23 and minute <= 59 and second <= 60
             and offset_hour <= 23 and offset_minute <= 59):
         return False
-    offset = timedelta(hours=offset_hour, minutes=offset_minute)
-    zone = timezone(-offset if found[8][0] == "-" else offset)
-    return second <= 59 or has_leap_second(year, month, day, hour, minute, zone)
+    return second <= 59 or has_leap_second(year, month, day, hour, minute, timezone(offset(found)))
+
+
+def offset(found):
+    """How far the written time is ahead of UTC."""
+    hours, minutes = map(int, found.groups(default="00")[8:])
+    size = timedelta(hours=hours, minutes=minutes)
+    return -size if found[8][0] == "-" else size
 
 
 def has_leap_second(year, month, day, hour, minute, zone):
