@@ -1,6 +1,7 @@
 """Generates pairs of texts: documents with schemas, and schemas with schemas.
 
     python3 generate_pairs.py check SEED COUNT
+    python3 generate_pairs.py dates SEED COUNT
     python3 generate_pairs.py compare SEED COUNT
 
 prints COUNT distinct pairs, one on a line, as hex. The same seed gives the
@@ -87,11 +88,14 @@ class PairWriter(generate.Writer):
     def definition(self, depth):
         """A random definition, forms nested at most this deep."""
         if depth == 0 or self.chance.random() < 0.3:
-            return Definition(self.chance.choice(TYPE_NAMES))
+            return Definition(self.type_name())
         form = self.chance.choice(["Array", "Map", "Object", "Object"])
         if form != "Object":
             return Definition(form, self.definition(depth - 1))
         return self.object_definition(self.names(4), depth)
+
+    def type_name(self):
+        return self.chance.choice(TYPE_NAMES)
 
     def object_definition(self, names, depth):
         required, optional = {}, {}
@@ -397,6 +401,16 @@ class PairWriter(generate.Writer):
         """A Map in place of an Object."""
         found = [JSON, *definition.required.values(), *definition.optional.values()]
         return Definition("Map", self.chance.choice(found))
+
+
+class DateWriter(PairWriter):
+    """The same with many dates, under DateTime and elsewhere."""
+
+    def type_name(self):
+        return "DateTime" if self.chance.random() < 0.6 else super().type_name()
+
+    def random_string(self):
+        return string(self.good_date()) if self.chance.random() < 0.6 else super().random_string()
 
 
 def move(name, source, target):
@@ -720,6 +734,19 @@ def wide_meeting_pairs(chance):
         yield writer.text_of(document), writer.text_of(writer.schema(definition, 0.02))
 
 
+def dated_pairs(chance):
+    """Documents with many dates that meet a schema, and the same damaged."""
+    writer = DateWriter(chance)
+    while True:
+        wide = chance.random() < 0.2
+        definition = writer.wide_definition() if wide else writer.any_definition()
+        schema = writer.text_of(writer.schema(definition))
+        for width in [2, 4, 4]:
+            document = writer.document(definition, width)
+            yield writer.text_of(document), schema
+        yield writer.text_of(writer.damaged(document)), schema
+
+
 def faulty_pairs(chance):
     """Schemas with faults, and the same as documents under Schema."""
     writer = PairWriter(chance)
@@ -824,6 +851,11 @@ def check_pairs(seed):
         bad_text_pairs(chance), unrelated_pairs(chance)])
 
 
+def dates_pairs(seed):
+    """The same, and as many with many dates."""
+    return generate.take_turns([check_pairs(seed), dated_pairs(random.Random(seed))])
+
+
 def schema_pairs(seed):
     """Pairs of a new and an old schema."""
     chance = random.Random(seed)
@@ -834,7 +866,7 @@ def schema_pairs(seed):
 
 
 def main(arguments):
-    pairs = {"check": check_pairs, "compare": schema_pairs}[arguments[0]]
+    pairs = {"check": check_pairs, "dates": dates_pairs, "compare": schema_pairs}[arguments[0]]
     seed, count = int(arguments[1]), int(arguments[2])
     for first, second in itertools.islice(pairs(seed), count):
         print(first.hex(), second.hex())

@@ -1,9 +1,10 @@
 """What the tests share: functions under test, buffers with guards, counting.
 
-A service has one text and one table, or two of each, and perhaps a buffer to
-write to. Its function takes the address and length of each text, then of each
-table, then of the buffer, then the address of the answer. In the model it is a
-function of the texts, the tables and the buffer.
+A service has one text and one table, or two of each, perhaps a buffer to write to,
+and perhaps numbers beside the answer. Its function takes the address and length of
+each text, then of each table, then of the buffer, then the address of the answer and
+that of the numbers. In the model it is a function of the texts, the tables, the buffer
+and the numbers.
 """
 
 import argparse
@@ -19,7 +20,8 @@ DEFAULT_SEED = 1
 GUARD = 8       # words, or bytes, before and behind each buffer
 ANSWER = 4      # words of an answer
 
-WORDS, BYTES = "I", "B"     # what a table and an answer have, and a text and a buffer
+# What a table and an answer have, a text and a buffer, and what stands beside an answer.
+WORDS, BYTES, NUMBERS = "I", "B", "q"
 
 # Around a text stand bytes that a reader running on would take for more of it.
 TEXT_GUARDS = b'"]}0 ,:a'
@@ -27,33 +29,37 @@ TEXT_GUARDS = b'"]}0 ,:a'
 
 # The function under test.
 
-def shape(texts, rooms=0):
-    """The type of a function with this many texts, as many tables, and buffers."""
+def shape(texts, rooms=0, numbers=0):
+    """The type of a function with this many texts, as many tables, and buffers, and so many numbers."""
     buffer = [ctypes.c_void_p, ctypes.c_size_t]
-    return ctypes.CFUNCTYPE(None, *(buffer * (2 * texts + rooms)), ctypes.c_void_p)
+    behind = [ctypes.c_void_p] * (2 if numbers else 1)
+    return ctypes.CFUNCTYPE(None, *(buffer * (2 * texts + rooms)), *behind)
 
 
-def load(path, name, texts, rooms=0):
+def load(path, name, texts, rooms=0, numbers=0):
     """A function of the shared library at the path."""
     function = getattr(ctypes.CDLL(os.path.abspath(path)), name)
-    function.restype = shape(texts, rooms)._restype_
-    function.argtypes = shape(texts, rooms)._argtypes_
+    function.restype = shape(texts, rooms, numbers)._restype_
+    function.argtypes = shape(texts, rooms, numbers)._argtypes_
     return function
 
 
-def model_function(service, texts, rooms=0):
+def model_function(service, texts, rooms=0, numbers=0):
     """A service of the model as a function of the library's shape."""
-    codes = [WORDS] * texts + [BYTES] * rooms
+    codes = [WORDS] * texts + [BYTES] * rooms + [NUMBERS]
+    paired = 2 * (2 * texts + rooms)
 
     def function(*arguments):
-        buffers = list(zip(arguments[0:-1:2], arguments[1::2]))
+        buffers = list(zip(arguments[0:paired:2], arguments[1:paired:2]))
+        answer, *behind = arguments[paired:]
         found = [ctypes.string_at(*buffer) for buffer in buffers[:texts]]
-        lent = [read_items(code, *buffer) for code, buffer in zip(codes, buffers[texts:])]
-        numbers = service(*found, *lent)
-        for code, (address, _), items in zip(codes, buffers[texts:], lent):
+        places = buffers[texts:] + [(address, numbers) for address in behind]
+        lent = [read_items(code, *place) for code, place in zip(codes, places)]
+        words = service(*found, *lent)
+        for code, (address, _), items in zip(codes, places, lent):
             write_items(code, address, items)
-        write_items(WORDS, arguments[-1], numbers)
-    return shape(texts, rooms)(function)
+        write_items(WORDS, answer, words)
+    return shape(texts, rooms, numbers)(function)
 
 
 def read_items(code, address, count):
@@ -105,6 +111,12 @@ class Bytes(Words):
     """A buffer to write to: random bytes with guard bytes before and behind."""
 
     code = BYTES
+
+
+class Numbers(Words):
+    """Random numbers of 64 bits, with a sign, with others before and behind."""
+
+    code = NUMBERS
 
 
 class Text:
@@ -159,14 +171,17 @@ def pair_lengths(needed, chance):
 
 # Comparing.
 
-def compare(function, service, texts, lengths, chance, rooms=()):
+def compare(function, service, texts, lengths, chance, rooms=(), numbers=0):
     """Runs the function and the model once; gives whether they agree."""
     buffers = [Text(text, chance) for text in texts]
     lent = named_buffers(lengths, rooms, chance)
     answer = Words(ANSWER, chance)
+    behind = {"numbers": Numbers(numbers, chance)} if numbers else {}
+    before = addresses([*buffers, *lent.values()])
+    lent.update(behind)
     wanted_words = {name: words.words() for name, words in lent.items()}
     wanted = service(*texts, *wanted_words.values())
-    function(*addresses([*buffers, *lent.values()]), answer.address())
+    function(*before, answer.address(), *[words.address() for words in behind.values()])
     differences = [] if answer.expect(wanted) else ["answer"]
     differences += [name for name, words in lent.items() if not words.expect(wanted_words[name])]
     differences += ["buffer of text %d" % number for number, buffer in enumerate(buffers, 1) if not buffer.unchanged()]
