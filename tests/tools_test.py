@@ -18,6 +18,7 @@ import tempfile
 
 import edge_cases_compact
 import edge_cases_counterexample
+import edge_cases_dates
 import generate
 import generate_failing
 import generate_pairs
@@ -28,6 +29,7 @@ from model_check import check
 from model_compact import compact, spelling
 from model_compare import NOT_CARRIED
 from model_counterexample import LEAST_BUFFER, counterexample
+from model_dates import NUMBERS, check_dates
 from program_test import (BROKEN, DOCUMENTS, Folder, GENERATED, JSON, LONG, NO_FILE, SCHEMAS, absent_names, bound_user, line_of,
                           ones, padded_name, spaced)
 
@@ -92,6 +94,11 @@ def small_jobs(tools):
             (["counterexample", tools.file(b'"Float"'), tools.file(b'"Integer"')], "30 0 0 3\n20 1 0 0", b"0.5")]
 
 
+def with_room(refusal):
+    """Whether a text of the other program's cases is taken where its table has room."""
+    return refusal is None or refusal[0] == "8"
+
+
 # Results: a description, and whether it holds.
 
 def argument_results(tools):
@@ -125,7 +132,7 @@ def refusal_results(tools):
     there = tools.write("there", OLD)
     for text, refusal in DOCUMENTS:
         arguments = ["compact", tools.file(text)]
-        if refusal is None or refusal[0] == "8":
+        if with_room(refusal):
             yield tools.holds([*arguments, "out"], line_of((0, 0, 0, len(spelling(text)))), {"out": spelling(text)})
             continue
         for out in [*OUTPUTS, arguments[1], there]:
@@ -137,7 +144,7 @@ def schema_results(tools):
     is carried. The tables have room for every schema."""
     tools.write("there", OLD)
     for text, refusal in SCHEMAS:
-        taken = refusal is None or refusal[0] == "8"
+        taken = with_room(refusal)
         for place in (1, 2):
             files = [tools.file(JSON), tools.file(JSON)]
             files[place - 1] = tools.file(text)
@@ -288,6 +295,59 @@ def counterexample_results(tools):
         yield shown(tools, *pair)
 
 
+# Dates: nothing is written.
+
+CREW = b'{"Object":{"required":{"departs":{"Array":"DateTime"}},"optional":{"to":"DateTime"}}}'
+SAILINGS = b'{"departs":["1970-01-01T00:00:00+01:00","1990-12-31T23:59:60.5Z"],"to":"1969-12-31t23:59:59.5z","at":"2024-04-30T08:00:00Z"}'
+NO_DATES = "0 0 0 0\n0 0 0"
+DATES = [
+    (SAILINGS, CREW, "0 0 0 0\n3 -3600 662688000"),
+    (b'{"departs":[],"at":"2024-04-30T08:00:00Z"}', CREW, NO_DATES),
+    (b'{"departs":["1970-01-01T00:00:00Z"]}', CREW, "0 0 0 0\n1 0 0"),
+    (b'["0000-01-01T00:00:00+23:59","9999-12-31T23:59:59-23:59"]', b'{"Array":"DateTime"}', "0 0 0 0\n2 -62167305540 253402387139"),
+    (SAILINGS, b'{"Object":{"required":{"departs":{"Array":"DateTime"},"at":"Integer"}}}', "20 1 101 59"),
+    (b'{"to":"1969-12-31T23:59:59Z"}', CREW, "21 1 0 23"),
+    (b'{"departs":["1970-01-01T00:00:00Z","1970-01-01T00:00:60Z"]}', CREW, "22 1 35 42"),
+    (SAILINGS, b'{"Array":"Date"}', "11 2 9 0"),
+    (SAILINGS[:-1], CREW, "2 1 123 0"),
+]
+
+
+def dated(tools, document, schema, **options):
+    """Of a document and a schema the model's answer, and on 0 its three numbers."""
+    tables, numbers = [[0] * (model.ROW_WORDS * len(text)) for text in (document, schema)], [0] * NUMBERS
+    answer = check_dates(document, schema, *tables, numbers)
+    line = line_of(answer) + ("\n" + line_of(numbers) if answer[0] == model.READ else "")
+    return tools.holds(["dates", tools.write("document", document), tools.write("schema", schema)], line, **options)
+
+
+def dates_argument_results(tools):
+    """Another number of files; a word that is no command; a file that cannot be opened, before any code."""
+    files = [tools.file(SAILINGS), tools.file(CREW)]
+    for count in [0, 1, 3, 4]:
+        yield tools.holds(["dates", *(files * 2)[:count]], NO_FILE)
+    for word in ["date", "datess", "Dates", "DATES", "dates ", "-dates"]:
+        yield tools.holds([word, *files], NO_FILE)
+    for name in ["nothing", "", "folder", "link-to-nothing", "x" * 256, "x" * 100000]:
+        for other in [*files, tools.file(BROKEN), name]:
+            yield tools.holds(["dates", name, other], NO_FILE)
+            yield tools.holds(["dates", other, name], NO_FILE)
+
+
+def dates_results(tools):
+    """Stated lines; refusals, with room for every text; the cases; generated pairs."""
+    for document, schema, lines in DATES:
+        yield tools.holds(["dates", tools.file(document), tools.file(schema)], lines)
+    for text, refusal in DOCUMENTS:
+        yield tools.holds(["dates", tools.file(text), tools.file(JSON)], NO_DATES if with_room(refusal) else refusal)
+    for text, refusal in SCHEMAS:
+        yield tools.holds(["dates", tools.file(b"{}"), tools.file(text)], NO_DATES if with_room(refusal) else refusal % 2)
+    for document, schema, *_ in edge_cases_dates.CASES:
+        yield dated(tools, document, schema)
+    for pair in itertools.islice(generate_pairs.dates_pairs(harness.DEFAULT_SEED), GENERATED):
+        yield dated(tools, *pair)
+
+
 def keep_stack_small():
     resource.setrlimit(resource.RLIMIT_STACK, (STACK, STACK))
 
@@ -297,6 +357,7 @@ def stack_results(tools):
     options = {"user": {"preexec_fn": keep_stack_small}}
     text = ones(32767)
     yield tools.holds(["compact", tools.file(text), "out"], line_of((0, 0, 0, len(text))), {"out": text}, **options)
+    yield dated(tools, text, spaced(b'{"Array":"Integer"}', model.SCHEMA_LIMIT), **options)
     for pair in itertools.islice(generate_failing.KINDS["16,384 bytes"](random.Random(harness.DEFAULT_SEED)), 4):
         yield shown(tools, *pair, **options)
 
@@ -315,7 +376,7 @@ def twice_results(tools):
 def results(tools):
     groups = [argument_results, input_results, refusal_results, schema_results, output_results, same_results, rights_results,
               no_output_results, rights_of_output_results, cut_results, length_results, generated_results,
-              counterexample_results, stack_results, twice_results]
+              counterexample_results, dates_argument_results, dates_results, stack_results, twice_results]
     return itertools.chain.from_iterable(group(tools) for group in groups)
 
 
