@@ -41,6 +41,12 @@ enum teleport_code {
 /* answer[1] is the text that the place is in: 1 or 2 in the order of the arguments, 0 for none. */
 enum { TELEPORT_CODE = 0, TELEPORT_TEXT = 1, TELEPORT_PLACE = 2, TELEPORT_OTHER = 3, TELEPORT_ANSWER_WORDS = 4 };
 
+/*
+ * The dates of a document: how many, and the earliest and the latest moment. A moment is whole seconds from
+ * 1970-01-01T00:00:00Z, negative before it, leap seconds not counted: from -62167305540 to 253402387139.
+ */
+enum { TELEPORT_DATES_COUNT = 0, TELEPORT_DATES_EARLIEST = 1, TELEPORT_DATES_LATEST = 2, TELEPORT_DATES_NUMBERS = 3 };
+
 /* The longest text in bytes, and how many brackets may stand open. */
 enum {
     TELEPORT_DOCUMENT_LIMIT = 65536,
@@ -79,8 +85,9 @@ enum teleport_kind {
  * - A text pointer is not NULL and leads to as many readable bytes as its length says; a table pointer is not NULL, is
  *   aligned for uint32_t and leads to as many writable words as its length says; a buffer pointer is not NULL and leads
  *   to as many writable bytes as its length says. A length may be 0.
- * - answer has four words. No table or buffer overlaps another table, a text or the answer, and nobody else writes to
- *   any of them during the call. The two texts may overlap or be the same.
+ * - answer has four words; dates has three numbers and is aligned for int64_t. Neither overlaps the other. No table or
+ *   buffer overlaps another table, a text, the answer or the dates, and nobody else writes to any of them during the
+ *   call. The two texts may overlap or be the same.
  *
  * Every call returns, whatever the bytes are. It allocates nothing, keeps no state, may run on several threads and
  * needs less than TELEPORT_STACK_BYTES (320 KiB) of stack.
@@ -111,6 +118,17 @@ void teleport_read(const uint8_t *text, size_t text_len, uint32_t *table, size_t
  */
 void teleport_check(const uint8_t *document, size_t document_len, const uint8_t *schema, size_t schema_len,
                     uint32_t *table1, size_t table1_len, uint32_t *table2, size_t table2_len, uint32_t answer[4]);
+
+/*
+ * Check, with the same answer and tables, and its dates. With 0, dates has how many values were judged as DateTime, and
+ * their earliest and latest moment. Each value under DateTime counts once, also where two are written alike; strings
+ * under String, JSON or Schema, or under a name that the schema does not have, are no dates. A moment is the written
+ * time less its offset, without its fraction; second 60 is the second after 59. Where there are no dates, and with every
+ * other code, all three are 0: only the count tells none from one at 1970-01-01T00:00:00Z, whose moment is 0.
+ */
+void teleport_check_dates(const uint8_t *document, size_t document_len, const uint8_t *schema, size_t schema_len,
+                          uint32_t *table1, size_t table1_len, uint32_t *table2, size_t table2_len,
+                          uint32_t answer[4], int64_t dates[3]);
 
 /* Does every JSON value that meets the new schema (text 1, table1) meet the old one (text 2, table2)? */
 void teleport_compare(const uint8_t *new_schema, size_t new_len, const uint8_t *old_schema, size_t old_len,

@@ -1,7 +1,7 @@
 /*
- * Calls the library as a C program does, and compares with answers and rows that are stated here.
+ * Calls the library as a C program does, and compares with answers, rows and dates that are stated here.
  * Each call is made twice: with every buffer right behind a page that traps, and right before one. The words around a
- * table or an answer, and the bytes around a buffer that is written to, must stay as they were; a text stands in pages
+ * table, an answer or the dates, and the bytes around a buffer that is written to, must stay as they were; a text stands in pages
  * that may only be read, with more of it behind.
  */
 #define _DEFAULT_SOURCE
@@ -12,7 +12,7 @@
 #include <unistd.h>
 #include <teleport.h>
 
-enum { ROOM = 512, FILL = 0x5a5a5a5a, LONGEST = 65536, LONG_ROWS = 32768 };
+enum { ROOM = 512, FILL = 0x5a5a5a5a, LONGEST = 65536, LONG_ROWS = 32768, DATES_WORDS = 2 * TELEPORT_DATES_NUMBERS };
 
 static unsigned long passed, failed;
 
@@ -80,7 +80,7 @@ static int as_lent(const struct area *area, const uint32_t *from, const uint32_t
     return 1;
 }
 
-/* A table or an answer after a call: what stands in it, the rest of it, and what stands around it. */
+/* A table, an answer or the dates after a call: what stands in it, the rest of it, and what stands around it. */
 struct lent {
     const struct area *area;
     const uint32_t *words;
@@ -120,7 +120,7 @@ static int bytes_hold(const struct area *area, const uint8_t *buffer, const char
     return 1;
 }
 
-static struct area text_areas[2], table_areas[2], answer_area, buffer_area;
+static struct area text_areas[2], table_areas[2], answer_area, dates_area, buffer_area;
 
 /* For a buffer of the longest document's length, and for one that has a byte more. */
 static struct area whole_area, larger_area;
@@ -361,24 +361,70 @@ static void expect_outcome(const struct pair *pair, const struct lending *lent, 
     }
 }
 
-static void call_with(const struct pair *pair, const size_t words[2], enum side side) {
+/* Check with dates: 02, L3: "all three are 0 where there were none, and on every other code". */
+static void check_dates(const struct pair *pair, const struct lending *lent, uint32_t code, const int64_t *dates, enum side side) {
+    static const int64_t none[TELEPORT_DATES_NUMBERS];
+    uint32_t *words = lend_words(&dates_area, DATES_WORDS, side);
+    teleport_check_dates(lent->texts[0], lent->lengths[0], lent->texts[1], lent->lengths[1], lent->tables[0], lent->words[0],
+        lent->tables[1], lent->words[1], lent->answer, (int64_t *)(void *)words);
+    const void *wanted = code == TELEPORT_OK ? dates : none;
+    struct lent after = {&dates_area, words, DATES_WORDS};
+    expect(holds(&after, wanted, DATES_WORDS), "the dates", pair->texts[0]->text, lent->lengths[0]);
+    expect(guards_hold(&after), "the words around the dates", pair->texts[0]->text, lent->lengths[0]);
+}
+
+/* The pair's own call; where dates are given, those that must be found on 0, Check with dates. */
+static void call_with(const struct pair *pair, const int64_t *dates, const size_t words[2], enum side side) {
     const struct outcome wanted = outcome_of(pair, words);
     const struct lending lent = lend_pair(pair, words, side);
-    pair->call(lent.texts[0], lent.lengths[0], lent.texts[1], lent.lengths[1], lent.tables[0], words[0], lent.tables[1], words[1],
-        lent.answer);
+    if (dates != NULL) {
+        check_dates(pair, &lent, wanted.answer[TELEPORT_CODE], dates, side);
+    } else {
+        pair->call(lent.texts[0], lent.lengths[0], lent.texts[1], lent.lengths[1], lent.tables[0], words[0], lent.tables[1], words[1],
+            lent.answer);
+    }
     expect_outcome(pair, &lent, &wanted);
 }
 
 /* Tables of every small length: both, and each beside one with room. */
-static void call_pair(const struct pair *pair) {
+static void call_pair(const struct pair *pair, const int64_t *dates) {
     for (size_t words = 0; words <= 60; words++) {
         const size_t lengths[3][2] = {{words, words}, {words, ROOM}, {ROOM, words}};
         for (int i = 0; i < 3; i++) {
-            call_with(pair, lengths[i], AT_START);
-            call_with(pair, lengths[i], AT_END);
+            call_with(pair, dates, lengths[i], AT_START);
+            call_with(pair, dates, lengths[i], AT_END);
         }
     }
 }
+
+/* Pairs of Check with their dates. */
+struct dating {
+    struct pair pair;
+    int64_t dates[TELEPORT_DATES_NUMBERS]; /* on 0 */
+};
+
+static const struct text
+    before_1970 = {"[\"1970-01-01T00:00:00+01:00\",\"1969-12-31T23:59:59.5Z\"]", WORDS(7,0,54,2,3, 6,1,28,0,1, 6,29,53,0,1)},
+    extremes = {"[\"9999-12-31T23:59:59-23:59\",\"0000-01-01T00:00:00+23:59\"]", WORDS(7,0,57,2,3, 6,1,28,0,1, 6,29,56,0,1)},
+    then_one = {"[\"1970-01-01T00:00:00Z\",1]", WORDS(7,0,26,2,3, 6,1,23,0,1, 4,24,25,0,1)},
+    times = {"{\"Array\":\"DateTime\"}", WORDS(8,0,20,1,3, 9,1,8,0,1, 6,9,19,0,1)},
+    strings = {"{\"Array\":\"String\"}", WORDS(8,0,18,1,3, 9,1,8,0,1, 6,9,17,0,1)};
+
+static const struct dating datings[] = {
+    {{teleport_check, {&april_30, &season}, {0, 0, 0, 0}}, {2, 1714464000, 1714521600}},
+    {{teleport_check, {&april_30, &open}, {0, 0, 0, 0}}, {0, 0, 0}},
+    {{teleport_check, {&april_31, &season}, {22, 1, 8, 30}}, {0, 0, 0}},
+    {{teleport_check, {&leap_second, &date}, {0, 0, 0, 0}}, {1, 662688000, 662688000}},
+    {{teleport_check, {&before_1970, &times}, {0, 0, 0, 0}}, {2, -3600, -1}},
+    {{teleport_check, {&extremes, &times}, {0, 0, 0, 0}}, {2, -62167305540, 253402387139}},
+    {{teleport_check, {&extremes, &strings}, {0, 0, 0, 0}}, {0, 0, 0}},
+    {{teleport_check, {&then_one, &times}, {20, 1, 24, 9}}, {0, 0, 0}},
+    {{teleport_check, {&empty, &season}, {21, 1, 0, 23}}, {0, 0, 0}},
+    {{teleport_check, {&comma, &times}, {3, 1, 3, 0}}, {0, 0, 0}},
+    {{teleport_check, {&extremes, &cut}, {2, 2, 9, 0}}, {0, 0, 0}},
+    {{teleport_check, {&extremes, &unknown}, {11, 2, 0, 0}}, {0, 0, 0}},
+    {{teleport_check, {&json, &json}, {0, 0, 0, 0}}, {0, 0, 0}},
+};
 
 /* Compact: buffers and tables of every small length. */
 
@@ -540,9 +586,11 @@ int main(void) {
         table_areas[i] = map_area(ROOM * sizeof(uint32_t));
     }
     answer_area = map_area(4 * sizeof(uint32_t));
+    dates_area = map_area(DATES_WORDS * sizeof(uint32_t));
     buffer_area = map_area(ROOM);
     for (size_t i = 0; i < sizeof readings / sizeof *readings; i++) read_beginnings(&readings[i]);
-    for (size_t i = 0; i < sizeof pairs / sizeof *pairs; i++) call_pair(&pairs[i]);
+    for (size_t i = 0; i < sizeof pairs / sizeof *pairs; i++) call_pair(&pairs[i], NULL);
+    for (size_t i = 0; i < sizeof datings / sizeof *datings; i++) call_pair(&datings[i].pair, datings[i].dates);
     for (size_t i = 0; i < sizeof writings / sizeof *writings; i++) compact_text(&writings[i]);
     exhibit_pairs();
     exhibit_longest();

@@ -101,7 +101,7 @@ static void nest(struct text *text, const struct nesting *how, unsigned levels, 
 typedef void service(const uint8_t *, size_t, const uint8_t *, size_t, uint32_t *, size_t, uint32_t *, size_t, uint32_t *);
 
 struct call {
-    service *call; /* Check, Compare, Compact or Counterexample; NULL is Read of the first text */
+    service *call; /* Check, with dates too, Compare, Compact or Counterexample; NULL is Read of the first text */
     const struct text *texts[2];
     uint32_t answer[4];
     uintptr_t frame;
@@ -117,6 +117,14 @@ static void compact(const uint8_t *text, size_t length, const uint8_t *none, siz
                     uint32_t *table, size_t words, uint32_t *no_table, size_t no_words, uint32_t *answer) {
     (void)none, (void)no_length, (void)no_table, (void)no_words;
     teleport_compact(text, length, table, words, buffer, room, answer);
+}
+
+/* Check with dates, in the shape of the others. */
+static int64_t dates[TELEPORT_DATES_NUMBERS];
+
+static void check_dates(const uint8_t *document, size_t document_length, const uint8_t *schema, size_t schema_length,
+                        uint32_t *table1, size_t words1, uint32_t *table2, size_t words2, uint32_t *answer) {
+    teleport_check_dates(document, document_length, schema, schema_length, table1, words1, table2, words2, answer, dates);
 }
 
 /* Compare's sister, in the shape of the others: its buffer has the least room. */
@@ -218,6 +226,29 @@ static void measure_check(void) {
     measure("Check, 24 arrays", teleport_check, 0, 0, SHORT);
 }
 
+/* So many dates, all at the second before 1970. */
+static void measure_dates_of(const char *name, int64_t count, size_t more_than) {
+    const int64_t wanted[TELEPORT_DATES_NUMBERS] = {count, -1, -1};
+    measure(name, check_dates, 0, 0, more_than);
+    expect(memcmp(dates, wanted, sizeof wanted) == 0, "the dates", name);
+}
+
+static void measure_dates(void) {
+    const struct nesting dated = {"{", "}", "\"1969-12-31T23:59:59Z\""};
+    const struct nesting as_dates = {"{\"Object\":{\"required\":{", "}}}", "\"DateTime\""};
+    put(&first, dated.leaf);
+    put(&second, as_dates.leaf);
+    measure_dates_of("Check with dates, short texts", 1, SHORT);
+    nest(&first, &dated, 8, MANY, dated.leaf);
+    pad(&first, LONG);
+    nest(&second, &as_dates, 8, MANY, as_dates.leaf);
+    pad(&second, LONG_SCHEMA);
+    measure_dates_of("Check with dates, longest texts, 8 objects of 40 required names", 8 * (MANY - 1) + 1, WIDE);
+    wrap(&first, "[", dated.leaf, "]", 24);
+    wrap(&second, "{\"Array\":", as_dates.leaf, "}", 24);
+    measure_dates_of("Check with dates, 24 arrays", 1, SHORT);
+}
+
 /* A definition with many names in both parts. */
 static void put_definition(struct text *text) {
     put(text, "{\"Object\":{\"required\":{");
@@ -228,11 +259,16 @@ static void put_definition(struct text *text) {
 }
 
 /* The definition is in the document, so that its depth is a document's. */
-static void measure_schema(void) {
+static void measure_longest_schema(const char *name, service *call) {
     nest(&first, &required, 10, MANY, "\"JSON\"");
     pad(&first, LONG);
     put(&second, "\"Schema\"");
-    measure("Check by Schema, 65,536 bytes, 10 definitions of 40 names", teleport_check, 0, 0, LONG);
+    measure(name, call, 0, 0, LONG);
+}
+
+static void measure_schema(void) {
+    measure_longest_schema("Check by Schema, 65,536 bytes, 10 definitions of 40 names", teleport_check);
+    measure_longest_schema("Check with dates by Schema, 65,536 bytes, 10 definitions of 40 names", check_dates);
     wrap(&first, "{\"Map\":", "\"JSON\"", "}", 32);
     put(&second, "\"Schema\"");
     measure("Check by Schema, 32 maps", teleport_check, 0, 0, SHORT);
@@ -310,6 +346,7 @@ int main(void) {
     measure_read();
     measure_compact();
     measure_check();
+    measure_dates();
     measure_schema();
     measure_compare();
     measure_counterexample();
