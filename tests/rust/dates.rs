@@ -1,4 +1,6 @@
-//! A model of the rules for dates.
+//! A model of the rules for dates, and of their moments.
+
+use std::sync::OnceLock;
 
 /// Minutes of a day.
 pub const DAY: i32 = 24 * 60;
@@ -29,12 +31,13 @@ impl Cursor<'_> {
     }
 }
 
-pub fn is_date(characters: &str) -> bool {
+/// The seconds from 1970-01-01T00:00:00Z to a date; none of a string that is no date.
+pub fn moment(characters: &str) -> Option<i64> {
     let mut cursor = Cursor { rest: characters.as_bytes() };
-    whole_date(&mut cursor).is_some() && cursor.rest.is_empty()
+    whole_date(&mut cursor).filter(|_| cursor.rest.is_empty())
 }
 
-fn whole_date(cursor: &mut Cursor) -> Option<()> {
+fn whole_date(cursor: &mut Cursor) -> Option<i64> {
     let (year, month, day) = calendar_day(cursor)?;
     cursor.one_of(b"Tt")?;
     let time = minutes(cursor)?;
@@ -42,7 +45,8 @@ fn whole_date(cursor: &mut Cursor) -> Option<()> {
     let second = cursor.at_most(60)?;
     fraction(cursor)?;
     let utc = minutes_before(year, month) + (day - 1) * DAY + time - offset(cursor)?;
-    (second < 60 || has_leap_second(year, utc)).then_some(())
+    let moment = first_day(year) * i64::from(DAY) * 60 + i64::from(utc) * 60 + i64::from(second);
+    (second < 60 || has_leap_second(year, utc)).then_some(moment)
 }
 
 fn calendar_day(cursor: &mut Cursor) -> Option<(i32, i32, i32)> {
@@ -97,6 +101,19 @@ fn days_in_month(year: i32, month: i32) -> i32 {
 /// From the beginning of the year to that of a month; the thirteenth is the next January.
 fn minutes_before(year: i32, month: i32) -> i32 {
     (1..month).map(|earlier| days_in_month(year, earlier) * DAY).sum()
+}
+
+/// The day of a 1 January, counted from 1970-01-01, year by year.
+fn first_day(year: i32) -> i64 {
+    static DAYS: OnceLock<Vec<i64>> = OnceLock::new();
+    let days = DAYS.get_or_init(|| {
+        let mut days = vec![0];
+        for year in 0..9999 {
+            days.push(days[year as usize] + i64::from(minutes_before(year, 13) / DAY));
+        }
+        days
+    });
+    days[year as usize] - days[1970]
 }
 
 /// Whether a minute of UTC, counted from the beginning of the written year, is the last before a January or a July. It may

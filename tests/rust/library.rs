@@ -1,5 +1,6 @@
 //! Calls of the library, with guards around all that is lent to it.
 
+use crate::check::Dates;
 use crate::generate::Chance;
 use crate::read::{Answer, Row, ROW_WORDS};
 
@@ -8,6 +9,10 @@ extern "C" {
     fn teleport_check(
         document: *const u8, document_len: usize, schema: *const u8, schema_len: usize,
         table1: *mut u32, table1_len: usize, table2: *mut u32, table2_len: usize, answer: *mut u32,
+    );
+    fn teleport_check_dates(
+        document: *const u8, document_len: usize, schema: *const u8, schema_len: usize,
+        table1: *mut u32, table1_len: usize, table2: *mut u32, table2_len: usize, answer: *mut u32, dates: *mut i64,
     );
     fn teleport_compare(
         new_schema: *const u8, new_len: usize, old_schema: *const u8, old_len: usize,
@@ -19,6 +24,7 @@ extern "C" {
 pub enum Service {
     Read,
     Check,
+    Dates,
     Compare,
 }
 
@@ -90,9 +96,10 @@ impl Text {
     }
 }
 
-/// The answer, and whether the texts and the guards of the answer are as found.
+/// The answer, the dates, 0 where they are not asked for, and whether the texts and the guards of both are as found.
 pub struct Found {
     pub answer: Answer,
+    pub dates: Dates,
     pub guards_held: bool,
 }
 
@@ -100,14 +107,18 @@ pub struct Found {
 pub fn call(service: Service, texts: &[Vec<u8>], tables: &mut [Words], chance: &mut Chance) -> Found {
     let lent: Vec<Text> = texts.iter().map(|text| Text::new(text, chance)).collect();
     let mut answer = Words::new(4, chance);
+    let before = if service == Service::Dates { chance.word() as i64 } else { 0 };
+    let mut dates: [Dates; 3] = [[before; 3]; 3]; // the first and the last are guards
     match service {
         Service::Read => read(&lent[0], &mut tables[0], &mut answer),
-        Service::Check => two_texts(teleport_check, &lent, tables, &mut answer),
-        Service::Compare => two_texts(teleport_compare, &lent, tables, &mut answer),
+        Service::Check => two_texts(Function::Plain(teleport_check), &lent, tables, &mut answer),
+        Service::Dates => two_texts(Function::Dated(dates.as_mut_ptr().wrapping_add(1)), &lent, tables, &mut answer),
+        Service::Compare => two_texts(Function::Plain(teleport_compare), &lent, tables, &mut answer),
     }
-    let guards_held = answer.guards_held() && lent.iter().all(Text::untouched);
+    let dates_held = dates[0] == [before; 3] && dates[2] == [before; 3];
+    let guards_held = answer.guards_held() && dates_held && lent.iter().all(Text::untouched);
     let words = answer.lent();
-    Found { answer: [words[0], words[1], words[2], words[3]], guards_held }
+    Found { answer: [words[0], words[1], words[2], words[3]], dates: dates[1], guards_held }
 }
 
 fn read(text: &Text, table: &mut Words, answer: &mut Words) {
@@ -122,7 +133,13 @@ type TwoTexts = unsafe extern "C" fn(
     *const u8, usize, *const u8, usize, *mut u32, usize, *mut u32, usize, *mut u32,
 );
 
-fn two_texts(function: TwoTexts, texts: &[Text], tables: &mut [Words], answer: &mut Words) {
+/// A function of two texts; Check with dates has room for them.
+enum Function {
+    Plain(TwoTexts),
+    Dated(*mut Dates),
+}
+
+fn two_texts(function: Function, texts: &[Text], tables: &mut [Words], answer: &mut Words) {
     let (text1, text2) = (texts[0].lent(), texts[1].lent());
     // Texts that are equal are lent as one.
     let text2 = if text1 == text2 { text1 } else { text2 };
@@ -130,10 +147,17 @@ fn two_texts(function: TwoTexts, texts: &[Text], tables: &mut [Words], answer: &
     let (table1, table2) = (front[0].lent(), back[0].lent());
     // SAFETY: each pointer leads to as many bytes or words as its length says; nothing overlaps.
     unsafe {
-        function(
-            text1.as_ptr(), text1.len(), text2.as_ptr(), text2.len(),
-            table1.as_mut_ptr(), table1.len(), table2.as_mut_ptr(), table2.len(),
-            answer.lent().as_mut_ptr(),
-        );
+        match function {
+            Function::Plain(function) => function(
+                text1.as_ptr(), text1.len(), text2.as_ptr(), text2.len(),
+                table1.as_mut_ptr(), table1.len(), table2.as_mut_ptr(), table2.len(),
+                answer.lent().as_mut_ptr(),
+            ),
+            Function::Dated(dates) => teleport_check_dates(
+                text1.as_ptr(), text1.len(), text2.as_ptr(), text2.len(),
+                table1.as_mut_ptr(), table1.len(), table2.as_mut_ptr(), table2.len(),
+                answer.lent().as_mut_ptr(), dates.cast(),
+            ),
+        }
     }
 }

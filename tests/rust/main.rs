@@ -1,4 +1,4 @@
-//! Holds the library to a model of its three services.
+//! Holds the library to a model of Read, Check, with dates too, and Compare.
 //!
 //!     rustc -O --edition 2021 main.rs -L DIRECTORY -l static=teleport -o outside
 //!     ./outside [COUNT [SEED]]
@@ -14,6 +14,7 @@ mod library;
 mod pairs;
 mod read;
 
+use check::Dates;
 use generate::Chance;
 use library::{Found, Service, Words};
 use read::{Expected, Reading, DOCUMENT, SCHEMA};
@@ -61,11 +62,12 @@ fn arguments() -> Option<(u64, u64)> {
     given.next().is_none().then_some(numbers)
 }
 
-/// Of 20 cases 12 are Read, 5 Check and 3 Compare.
+/// Of 20 cases 12 are Read, 5 Check, 3 of them with dates, and 3 Compare.
 fn service_of(number: u64) -> Service {
     match number % 20 {
         0..=11 => Service::Read,
-        12..=16 => Service::Check,
+        12..=13 => Service::Check,
+        14..=16 => Service::Dates,
         _ => Service::Compare,
     }
 }
@@ -74,6 +76,7 @@ fn name(service: Service) -> &'static str {
     match service {
         Service::Read => "Read",
         Service::Check => "Check",
+        Service::Dates => "Check with dates",
         Service::Compare => "Compare",
     }
 }
@@ -85,13 +88,14 @@ struct Case {
     readings: Vec<Reading>,
     words: [usize; 2],
     expected: Expected,
+    dates: Dates,
 }
 
 impl Case {
     fn new(service: Service, number: u64, chance: &mut Chance) -> Case {
         let (texts, limits) = match service {
             Service::Read => (vec![generate::text(chance)], [DOCUMENT, DOCUMENT]),
-            Service::Check => (pairs::check_pair(chance), [DOCUMENT, SCHEMA]),
+            Service::Check | Service::Dates => (pairs::check_pair(chance), [DOCUMENT, SCHEMA]),
             Service::Compare => (pairs::schema_pair(chance), [SCHEMA, SCHEMA]),
         };
         let readings: Vec<Reading> =
@@ -100,12 +104,13 @@ impl Case {
         for (length, reading) in words.iter_mut().zip(&readings) {
             *length = generate::table_length(reading.rows.len(), number, service == Service::Read, chance);
         }
-        let expected = match service {
-            Service::Read => read::read(&readings[0], words[0]),
-            Service::Check => check::check(&readings[0], &readings[1], words),
-            Service::Compare => compare::compare(&readings[0], &readings[1], words),
+        let (expected, dates) = match service {
+            Service::Read => (read::read(&readings[0], words[0]), [0; 3]),
+            Service::Check => (check::check(&readings[0], &readings[1], words).0, [0; 3]),
+            Service::Dates => check::check(&readings[0], &readings[1], words),
+            Service::Compare => (compare::compare(&readings[0], &readings[1], words), [0; 3]),
         };
-        Case { service, texts, readings, words, expected }
+        Case { service, texts, readings, words, expected, dates }
     }
 
     /// Calls the library; the second is the first difference.
@@ -120,8 +125,10 @@ impl Case {
         }
         let difference = if found.answer != self.expected.answer {
             Some("the answers differ".to_string())
+        } else if found.dates != self.dates {
+            Some(format!("the dates are {:?}, wanted {:?}", found.dates, self.dates))
         } else if !found.guards_held {
-            Some("a text or a guard of the answer was written".to_string())
+            Some("a text or a guard of the answer or the dates was written".to_string())
         } else {
             tables.iter().find_map(Words::difference)
         };
@@ -140,7 +147,7 @@ impl Case {
 }
 
 fn print_seen(seen: &Seen) {
-    for service in [Service::Read, Service::Check, Service::Compare].map(name) {
+    for service in [Service::Read, Service::Check, Service::Dates, Service::Compare].map(name) {
         let codes: Vec<String> = seen
             .iter()
             .filter(|((of, _), _)| *of == service)

@@ -294,6 +294,7 @@ fn of_type(name: &str, chance: &mut Chance) -> Value {
         "Schema" => schema(2, chance),
         "Float" if chance.one_in(2) => Value::Plain(chance.pick(&OTHER_NUMBERS)),
         "Float" | "Integer" => Value::Plain(chance.pick(&WHOLE_NUMBERS)),
+        "String" | "JSON" if chance.one_in(4) => Value::String(date(chance)),
         "String" => Value::String(characters(5, chance)),
         "Boolean" => Value::Plain(chance.pick(&LITERALS[1..])),
         "DateTime" => Value::String(date(chance)),
@@ -325,7 +326,7 @@ fn of_body(parts: &[(String, Value)], chance: &mut Chance) -> Members {
         }
     }
     if chance.one_in(4) {
-        members.push(member("another", value(1, chance)));
+        members.push(member("another", of_type("JSON", chance)));
     }
     chance.shuffle(&mut members);
     members
