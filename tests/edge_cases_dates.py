@@ -152,6 +152,7 @@ def cases():
 
 
 CASES = [(document.encode(), schema.encode(), code, numbers) for document, schema, code, numbers in cases()]
+CASES.append((b"[" + at(5).encode() + b',"\xff"]', ARRAY.encode(), 4, NONE))
 
 TABLES = [
     (dates(5, 6).encode(), ARRAY.encode(), 14, 15, 8), (dates(5, 6).encode(), ARRAY.encode(), 15, 14, 8),
