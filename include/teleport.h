@@ -1,6 +1,6 @@
 /*
- * Reads JSON text, checks a document against a Teleport schema, compares two schemas, shows by a document that one is not
- * carried to the other, writes a text in its one spelling.
+ * Reads JSON text, checks a document against a Teleport schema and gives its dates, compares two schemas, shows by a
+ * document that one is not carried to the other, writes a text in its one spelling.
  */
 #ifndef TELEPORT_H
 #define TELEPORT_H

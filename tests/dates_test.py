@@ -23,7 +23,7 @@ import harness
 import model
 from check_test import rows_needed
 from generate_pairs import FRACTIONS, LEAP_MINUTES, dates_pairs, second_60
-from model_check import MEETS, NO_DATE, check, days_in_month
+from model_check import MEETS, NAME_SHARED, NO_DATE, NO_DEFINITION, WRONG_KIND, check, days_in_month
 from model_dates import DAY, MONTHS, NUMBERS, check_dates, days_in_year, moment
 
 DEFAULT_COUNT = 24000
@@ -33,10 +33,10 @@ TIMES = 997                         # that the days take turns with
 YEARS = range(10000)
 DAYS = 366 + date.max.toordinal()   # of those years; Python's date begins with the year 1
 
-CODES = {*range(MEETS, model.NO_ROOM + 1), *range(10, 13), *range(20, NO_DATE + 1)}
+CODES = {*range(MEETS, model.NO_ROOM + 1), *range(NO_DEFINITION, NAME_SHARED + 1), *range(WRONG_KIND, NO_DATE + 1)}
 LEAST_DATED = 1000                  # pairs with two dates or more, of which too few would show nothing
 
-# Under each a list of dates or a date meets, in tables with room for the longest list.
+# Schemas of one date and of a list, and room for the longest list.
 ONE, LIST = b'"DateTime"', b'{"Array":"DateTime"}'
 ROOM = model.ROW_WORDS * (1 + max(LENGTHS))
 

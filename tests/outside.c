@@ -1,8 +1,8 @@
 /*
  * Calls the library as a C program does, and compares with answers, rows and dates that are stated here.
  * Each call is made twice: with every buffer right behind a page that traps, and right before one. The words around a
- * table, an answer or the dates, and the bytes around a buffer that is written to, must stay as they were; a text stands in pages
- * that may only be read, with more of it behind.
+ * table, an answer or the dates, and the bytes around a buffer that is written to, must stay as they were; a text stands
+ * in pages that may only be read, with more of it behind.
  */
 #define _DEFAULT_SOURCE
 #include <stdio.h>
