@@ -195,24 +195,30 @@ def run_library(functions, count, seed):
 # The model against the cases and Python's datetime.
 
 EPOCH = datetime(1970, 1, 1)
-CYCLE = 400     # years, after which the calendar repeats
+
+# Python has no year 0. After 400 years the calendar repeats, so that the year 400 stands for it.
+FIRST_YEAR, LATER_YEAR = "0000", "0400"
+CYCLE = datetime(401, 1, 1) - datetime(1, 1, 1)
+
+
+def later(text):
+    """The same in a year that Python has, and how much later that is."""
+    return (LATER_YEAR + text[4:], CYCLE) if text.startswith(FIRST_YEAR) else (text, timedelta(0))
 
 
 def by_datetime(text):
-    """The moment of a date. Python's datetime has no year 0, so that its cycle is gone round once, and no second 60, which
-    is one more than 59."""
-    year, leap = int(text[:4]), text[17:19] == "60"
-    around = CYCLE if year == 0 else 0
-    written = datetime.fromisoformat("%04d%s%s" % (year + around, text[4:17], "59" if leap else text[17:19]))
+    """The moment of a date. Python has no second 60, which is one more than 59."""
+    (text, more), leap = later(text), text[17:19] == "60"
+    written = datetime.fromisoformat(text[:17] + ("59" if leap else text[17:19]))
     ahead = datetime.strptime(text[19:].lstrip(".0123456789").upper(), "%z").utcoffset()
-    turn = datetime(1 + around, 1, 1) - datetime(1, 1, 1)
-    return (written - EPOCH - ahead - turn) // timedelta(seconds=1) + leap
+    return (written - EPOCH - ahead - more) // timedelta(seconds=1) + leap
 
 
 def is_counted(case):
-    """Whether a day has the number that Python's date gives it."""
+    """Whether a day has the number that Python gives it."""
     day, number = case
-    return day.startswith("0000") or date.fromordinal(EPOCH.toordinal() + number).isoformat() == day
+    shown, more = later(day)
+    return date.fromordinal(EPOCH.toordinal() + number + more.days).isoformat() == shown
 
 
 def gives(document, schema, tables, code, numbers):
