@@ -5,7 +5,9 @@ ghost use Rattle.schema.specs.Walks.{Counted};
 
 // Where each of the three numbers stands.
 const COUNT: usize = 0;
+
 const EARLIEST: usize = 1;
+
 const LATEST: usize = 2;
 
 // No document has more values, so that no count is left behind.

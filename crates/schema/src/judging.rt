@@ -243,7 +243,17 @@ fn judge_fields(
     while left > 0 {
         let name = row_at(rows2, row);
         let value = find(document, rows1, at, between(schema, name.first, name.end));
-        let found = judge_field(document, schema, rows1, rows2, at, value, row, required, dates);
+        let found = judge_field(
+            document,
+            schema,
+            rows1,
+            rows2,
+            at,
+            value,
+            row,
+            required,
+            dates,
+        );
         if found.code != 0 {
             return found;
         }
@@ -282,7 +292,17 @@ fn judge_wide(
     let mut row = fields + 1;
     while i < count {
         let value = values[i];
-        let found = judge_field(document, schema, rows1, rows2, at, value, row, required, dates);
+        let found = judge_field(
+            document,
+            schema,
+            rows1,
+            rows2,
+            at,
+            value,
+            row,
+            required,
+            dates,
+        );
         if found.code != 0 {
             return found;
         }

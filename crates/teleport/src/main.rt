@@ -40,7 +40,13 @@ fn check() {
     let mut table1 = [0u32; TABLE];
     let mut table2 = [0u32; TABLE];
     let mut dates = [0i64; 3];
-    answer(schema::check(&document[..n], &schema[..m], &mut table1, &mut table2, &mut dates));
+    answer(schema::check(
+        &document[..n],
+        &schema[..m],
+        &mut table1,
+        &mut table2,
+        &mut dates,
+    ));
 }
 
 // `compare FILE FILE`: a new schema and an old one.

@@ -41,22 +41,33 @@ fn compact() {
     answer(a);
 }
 
-// `counterexample NEW OLD OUT`.
-fn counterexample() {
-    let mut new = [0u8; TEXT];
-    let Loaded::Bytes(n) = load(2, &mut new) else {
-        no_file();
-        return;
-    };
-    let mut old = [0u8; TEXT];
-    let Loaded::Bytes(m) = load(3, &mut old) else {
-        no_file();
-        return;
-    };
-    exhibit(&new[..n], &old[..m]);
+// The commands that read two files.
+enum Pair {
+    Counterexample,
+    Dates,
 }
 
-// The same of the two texts. On 30 the document is written, and judged by the old schema: the second
+// Loads both files, and then runs the command on the two texts.
+fn load_both(command: Pair) {
+    let mut first = [0u8; TEXT];
+    let Loaded::Bytes(n) = load(2, &mut first) else {
+        no_file();
+        return;
+    };
+    let mut second = [0u8; TEXT];
+    let Loaded::Bytes(m) = load(3, &mut second) else {
+        no_file();
+        return;
+    };
+    let first = &first[..n];
+    let second = &second[..m];
+    match command {
+        Pair::Counterexample => exhibit(first, second),
+        Pair::Dates => count_dates(first, second),
+    }
+}
+
+// `counterexample NEW OLD OUT`. On 30 the document is written, and judged by the old schema: the second
 // line is where an old board stops. The buffer has the length that the service asks for. The first
 // table is the new schema's, then the document's.
 fn exhibit(new: &[u8], old: &[u8]) {
@@ -78,23 +89,7 @@ fn exhibit(new: &[u8], old: &[u8]) {
     answer(a);
 }
 
-// `dates DOCUMENT SCHEMA`.
-fn dates() {
-    let mut document = [0u8; TEXT];
-    let Loaded::Bytes(n) = load(2, &mut document) else {
-        no_file();
-        return;
-    };
-    let mut schema = [0u8; TEXT];
-    let Loaded::Bytes(m) = load(3, &mut schema) else {
-        no_file();
-        return;
-    };
-    count_dates(&document[..n], &schema[..m]);
-}
-
-// The same of the two texts. On 0 the second line is how many dates there are, the earliest and the
-// latest.
+// `dates DOCUMENT SCHEMA`. On 0 the second line is how many dates there are, the earliest and the latest.
 fn count_dates(document: &[u8], schema: &[u8]) {
     let mut table1 = [0u32; TABLE];
     let mut table2 = [0u32; SCHEMA_TABLE];
@@ -110,9 +105,9 @@ fn main() {
     if asks(b"compact", 4) {
         compact();
     } else if asks(b"counterexample", 5) {
-        counterexample();
+        load_both(Pair::Counterexample);
     } else if asks(b"dates", 4) {
-        dates();
+        load_both(Pair::Dates);
     } else {
         no_file();
     }

@@ -93,7 +93,13 @@ fn check(fields: &[u8]) -> bool {
     let mut table1 = [0u32; TABLE];
     let mut table2 = [0u32; TABLE];
     let mut dates = [0i64; 3];
-    lines::answer(schema::check(&document[..n], &schema[..m], &mut table1, &mut table2, &mut dates));
+    lines::answer(schema::check(
+        &document[..n],
+        &schema[..m],
+        &mut table1,
+        &mut table2,
+        &mut dates,
+    ));
     true
 }
 
