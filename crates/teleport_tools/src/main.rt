@@ -47,7 +47,8 @@ enum Pair {
     Dates,
 }
 
-// Loads both files, and then runs the command on the two texts.
+// Loads both files, and then runs the command on the two texts. The tables are lent, so that the commands
+// share their room.
 fn load_both(command: Pair) {
     let mut first = [0u8; TEXT];
     let Loaded::Bytes(n) = load(2, &mut first) else {
@@ -61,20 +62,20 @@ fn load_both(command: Pair) {
     };
     let first = &first[..n];
     let second = &second[..m];
+    let mut table1 = [0u32; TABLE];
+    let mut table2 = [0u32; SCHEMA_TABLE];
     match command {
-        Pair::Counterexample => exhibit(first, second),
-        Pair::Dates => count_dates(first, second),
+        Pair::Counterexample => exhibit(first, second, &mut table1, &mut table2),
+        Pair::Dates => count_dates(first, second, &mut table1, &mut table2),
     }
 }
 
 // `counterexample NEW OLD OUT`. On 30 the document is written, and judged by the old schema: the second
 // line is where an old board stops. The buffer has the length that the service asks for. The first
 // table is the new schema's, then the document's.
-fn exhibit(new: &[u8], old: &[u8]) {
-    let mut table1 = [0u32; TABLE];
-    let mut table2 = [0u32; SCHEMA_TABLE];
+fn exhibit(new: &[u8], old: &[u8], table1: &mut [u32], table2: &mut [u32]) {
     let mut buffer = [0u8; LIMIT];
-    let a = counterexample::counterexample(new, old, &mut table1, &mut table2, &mut buffer);
+    let a = counterexample::counterexample(new, old, table1, table2, &mut buffer);
     if a.code == 30 {
         let length = a.other as usize;
         if !save(4, &buffer[..length]) {
@@ -83,32 +84,47 @@ fn exhibit(new: &[u8], old: &[u8]) {
         }
         answer(a);
         let mut dates = [0i64; 3];
-        answer(schema::check(&buffer[..length], old, &mut table1, &mut table2, &mut dates));
+        answer(schema::check(&buffer[..length], old, table1, table2, &mut dates));
         return;
     }
     answer(a);
 }
 
 // `dates DOCUMENT SCHEMA`. On 0 the second line is how many dates there are, the earliest and the latest.
-fn count_dates(document: &[u8], schema: &[u8]) {
-    let mut table1 = [0u32; TABLE];
-    let mut table2 = [0u32; SCHEMA_TABLE];
+fn count_dates(document: &[u8], schema: &[u8], table1: &mut [u32], table2: &mut [u32]) {
     let mut dates = [0i64; 3];
-    let a = schema::check(document, schema, &mut table1, &mut table2, &mut dates);
+    let a = schema::check(document, schema, table1, table2, &mut dates);
     answer(a);
     if a.code == 0 {
         three(dates);
     }
 }
 
-fn main() {
+// What the arguments ask for.
+enum Command {
+    Compact,
+    Two(Pair),
+    Nothing,
+}
+
+fn asked() -> Command {
     if asks(b"compact", 4) {
-        compact();
-    } else if asks(b"counterexample", 5) {
-        load_both(Pair::Counterexample);
-    } else if asks(b"dates", 4) {
-        load_both(Pair::Dates);
-    } else {
-        no_file();
+        return Command::Compact;
+    }
+    if asks(b"counterexample", 5) {
+        return Command::Two(Pair::Counterexample);
+    }
+    if asks(b"dates", 4) {
+        return Command::Two(Pair::Dates);
+    }
+    Command::Nothing
+}
+
+// Each command is called in one place, so that the compiler lets them share one frame.
+fn main() {
+    match asked() {
+        Command::Compact => compact(),
+        Command::Two(command) => load_both(command),
+        Command::Nothing => no_file(),
     }
 }

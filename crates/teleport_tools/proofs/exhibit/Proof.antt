@@ -11,7 +11,7 @@ use Rattle.teleport_tools.proofs.exhibit.Tie as tie
 
 -- the service answered
 abbrev called : tie.After-struct-known2 → tie.After-counterexample
-called c = c .before .before .before .before .before .before
+called c = c .before .before .before .before .before .before .before .before
 
 -- with 30, "other" is no more than a document has
 most : (c : tie.After-struct-known2) → called c .counterexample .result .other ≤ 65536
@@ -28,8 +28,6 @@ answered c = c .before .before .before .before
 pub exhibit-spec : {M : Type 1} → statement M
 exhibit-spec = tie.close (tie.spec
     (λ c. search needs)
-    (λ c. search needs)
-    (λ c. search needs)
     (λ c κs. search needs)  -- counterexample
     (λ c. count-fits _ (most c))  -- a.other as usize
     (λ c. omega (arith, most c, whole c))  -- buffer[..length]
@@ -37,13 +35,17 @@ exhibit-spec = tie.close (tie.spec
     (λ c κs. search needs)  -- save
     (λ c κs. search needs)  -- no file to write
     (λ c. search needs)
+    (λ c. search needs)
+    (λ c. search needs)
     (λ c κs. search needs)  -- answer
     (λ c. omega (arith, most (answered c), whole (answered c)))  -- buffer[..length]
     (λ c. count-length _ (most (answered (c .before))) _ (whole (answered (c .before))))
-    (λ c. search needs)
-    (λ c. search needs)
     (λ c κs. search needs)  -- check
     (λ c κs. search needs)  -- answer
     (λ c. search needs)
+    (λ c. search needs)
+    (λ c. search needs)
     (λ c κs. search needs)  -- answer
+    (λ c. search needs)
+    (λ c. search needs)
     (λ c. search needs))

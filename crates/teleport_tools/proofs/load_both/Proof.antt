@@ -23,7 +23,11 @@ load-both-spec = tie.close (tie.spec
     (λ c. search loaded-within)  -- second[..m]
     (λ c. search loaded-length)
     (λ c. search needs)
+    (λ c. search needs)
+    (λ c. search needs)
     (λ c κs. search needs)  -- exhibit
+    (λ c. search needs)
+    (λ c. search needs)
     (λ c. search needs)
     (λ c κs. search needs)  -- count_dates
     (λ c. search needs)
