@@ -8,7 +8,7 @@ use lib.ListN.{drop}
 use Rattle.model.specs.Calendar.{Day, on, inCalendar}
 use Rattle.model.specs.Date.{isEnd, zoneOf, behindUtc, movedTime}
 use Rattle.model.proofs.Basics.{both, by-test}
-use Rattle.model.proofs.Fields.{clock-less, day-in, year-most, behind-range}
+use Rattle.model.proofs.DateFields.{clock-less, day-in, year-most, behind-range}
 use Rattle.model.proofs.Moments.{moment-count}
 use Rattle.chars.specs.Strings.{charsAt, characters}
 use Rattle.date.specs.declared.walk.Number.{Number}

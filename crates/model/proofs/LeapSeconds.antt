@@ -13,7 +13,7 @@ use Rattle.model.specs.Date.{two, dayOf, minutes, zoneOf, offset, behind
 use Rattle.model.specs.Date.{utcDay, utcMinute, endsHalf, isLeapMinute, hasSecond, isWritten, isDate}
 use Rattle.model.proofs.Basics.{by-test, clash}
 use Rattle.model.proofs.Days.{startsHalf, eve, morrow}
-use Rattle.model.proofs.Fields.{clock-less, offset-less, day-in, behind-range, day-time}
+use Rattle.model.proofs.DateFields.{clock-less, offset-less, day-in, behind-range, day-time}
 
 module _ (x : Day) (n : ℕ) where
   -- the moved time n is 23:59 on 30 June or 31 December

@@ -3,7 +3,7 @@ pub mod Span
 pub mod Differences
 pub mod Days
 pub mod DayNumbers
-pub mod Fields
+pub mod DateFields
 pub mod LeapSeconds
 pub mod Moments
 pub mod Integers

@@ -16,7 +16,7 @@ use Rattle.model.proofs.Basics.{and-ways, by-test}
 use Rattle.model.proofs.Differences.{sub-lt, sub-le, sub-more, sub-less, sub-cross, sub-times}
 use Rattle.model.proofs.Days.{startsHalf, after-in, eve, morrow}
 use Rattle.model.proofs.DayNumbers.{first-count, count-most, after-count, Before, rises}
-use Rattle.model.proofs.Fields.{clock-less, offset-less, day-in, year-most, behind-range, day-time}
+use Rattle.model.proofs.DateFields.{clock-less, offset-less, day-in, year-most, behind-range, day-time}
 use Rattle.model.proofs.LeapSeconds.{has-most, moved-short, second-60-ways}
 
 -- ---- counts of seconds

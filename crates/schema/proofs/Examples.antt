@@ -4,9 +4,12 @@ use Prim.Native.String.{String as Letters}
 use mathlib.Core.Path.{_≡_, refl}
 use mathlib.Core.Bool.{cond}
 use mathlib.Core.List.{List, [], _∷_, _++_}
+use lib.IntN.{ℤ, pos, negℤ}
 use lib.ListN.{replicate}
 use lib.Dec.{eqb}
 use Rattle.model.specs.Text.{text}
+use Rattle.model.specs.Calendar.{firstMonths, firstYears, dayCount, dayNumber}
+use Rattle.model.specs.Date.{utcDay, moment}
 use Rattle.model.specs.Definition.{JSON, Schema, Float, Integer, String, Boolean, DateTime}
 use Rattle.chars.specs.Bytes.{codeOf, digit, escapeOf, lowest, highest, sixBits}
 use Rattle.tokens.specs.Parse.{Parse, refused, parsed, unexpected}
@@ -24,7 +27,8 @@ use Rattle.syntax.specs.declared.answers.Answer.{Answer}
 use Rattle.definitions.specs.Definitions.{Located, named-at, array-at, map-at, object-at, no-field, field, Defined, faulty, fine, definitionAt}
 use Rattle.schema.specs.Judging.{mismatch, nothing, mismatchAt}
 use Rattle.definitions.specs.Accepting.{readSchema, accept}
-use Rattle.schema.specs.Checking.{checkAnswer, checkTable}
+use Rattle.schema.specs.Dates.{leastOf, greatestOf, earliest, latest, datesOf}
+use Rattle.schema.specs.Checking.{checkAnswer, checkTable, checkMoments}
 
 -- ---- how the examples are written
 
@@ -314,3 +318,30 @@ tables : (checkTable (replicate 6 9) 5 (json "1") (json "'Integer'") ≡ 4 ∷ 0
     × (checkTable (replicate 5 9) 4 (json "1") (json "'JSON'") ≡ replicate 5 9)
 unfolding checkIn checkTable tableOf
 tables = (refl, refl, refl, refl, refl, refl)
+
+-- ---- dates (02, L3)
+
+-- how many, the earliest and the latest
+datesIn : List ℕ → List ℕ → List ℤ
+unfolding checkIn checkMoments earliest latest leastOf greatestOf utcDay moment dayNumber dayCount firstYears firstMonths
+datesIn document schema = datesOf (checkMoments 16380 16380 document schema)
+
+none-dated : List ℤ
+none-dated = pos 0 ∷ pos 0 ∷ pos 0 ∷ []
+
+-- what is judged as DateTime counts, each value once; a string under another type or no name does not
+judged-dates :
+    (datesIn (json "['1970-01-01T00:00:01Z','1969-12-31T23:59:59.5Z','1970-01-01T00:00:01Z']") (json "{'Array':'DateTime'}") ≡ pos 3 ∷ negℤ (pos 1) ∷ pos 1 ∷ [])
+    × (datesIn (json "{'a':'1970-01-01T00:00:00+01:00','b':'1970-01-01T00:00:00Z','c':'2000-01-01T00:00:00Z'}")
+    (json "{'Object':{'required':{'b':'String'},'optional':{'a':'DateTime'}}}") ≡ pos 1 ∷ negℤ (pos 3600) ∷ negℤ (pos 3600) ∷ [])
+    × (datesIn (json "'2000-01-01T00:00:00Z'") (json "'JSON'") ≡ none-dated)
+unfolding datesIn none-dated
+judged-dates = (refl, refl, refl)
+
+-- "all three are 0 [..] on every other code"
+no-dates :
+    (datesIn (json "['2000-01-01T00:00:00Z',1]") (json "{'Array':'DateTime'}") ≡ none-dated)
+    × (datesIn (json "['2000-01-01T00:00:00Z',''") (json "{'Array':'DateTime'}") ≡ none-dated)
+    × (datesIn (json "['2000-01-01T00:00:00Z']") (json "{'Array':'Date'}") ≡ none-dated)
+unfolding datesIn none-dated
+no-dates = (refl, refl, refl)

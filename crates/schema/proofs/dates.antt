@@ -1,3 +1,4 @@
 pub mod Laws
 pub mod Once
 pub mod Spans
+pub mod Written

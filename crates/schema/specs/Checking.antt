@@ -63,12 +63,13 @@ pub record Meeting (w₁ w₂ : ℕ) (document schema : List ℕ) : Type 0 where
 
 -- ---- the dates
 
+-- the moments of what is judged, where the schema is accepted and the document read
 abbrev pub judgedMoments : Accepted → List ℕ → Parse Node → List ℤ
 judgedMoments (not-accepted a) s o = []
 judgedMoments (accepted d) s (refused c p) = []
 judgedMoments (accepted d) s (parsed n e) = moments s (visits s d n)
 
--- "on 0": the moments of the values that were judged as DateTime; none "on every other code"
+-- "on 0" those, and none "on every other code"
 unfoldable pub checkMoments : ℕ → ℕ → List ℕ → List ℕ → List ℤ
 checkMoments w₁ w₂ document schema =
     cond (eqb (checkAnswer w₁ w₂ document schema .code) 0) (judgedMoments (accept 2 w₂ schema) document (readDocument document)) []

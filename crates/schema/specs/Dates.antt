@@ -40,12 +40,14 @@ momentOf s (value-by (map-at p d) n) = []
 momentOf s (value-by (object-at p r o) n) = []
 momentOf s (missing-name brace q) = []
 
+-- of all that is judged
 abbrev pub moments : List ℕ → List Visit → List ℤ
 moments s [] = []
 moments s (v ∷ vs) = momentOf s v ++ moments s vs
 
 -- ---- how many, the earliest and the latest
 
+-- the earlier and the later of two
 abbrev pub lesser : ℤ → ℤ → ℤ
 lesser a b = cond (ltZ a b) a b
 
@@ -70,6 +72,7 @@ unfoldable pub latest : List ℤ → ℤ
 latest [] = pos 0
 latest (m ∷ ms) = greatestOf m ms
 
+-- the three numbers
 abbrev pub datesOf : List ℤ → List ℤ
 datesOf ms = pos (length ms) ∷ earliest ms ∷ latest ms ∷ []
 

@@ -14,7 +14,7 @@ use Rattle.model.specs.Text.{same}
 use Rattle.model.specs.Value.{isDigit}
 use Rattle.model.specs.Date.{at, minutes, isClock, isOffset, isZone, afterDigits, offset}
 use Rattle.model.proofs.Basics.{and-ways, by-test, clash, or-true, or-false as neither}
-use Rattle.model.proofs.Fields.{digit-range, offset-less}
+use Rattle.model.proofs.DateFields.{digit-range, offset-less}
 use Rattle.chars.proofs.Facts.{in-text}
 use Rattle.chars.specs.Strings.{charsAt}
 use Rattle.date.specs.declared.walk.Number.{Number}

@@ -20,7 +20,7 @@ use Rattle.chars.specs.Bytes.{byteAt}
 use Rattle.chars.specs.Characters.{charAt}
 use Rattle.chars.specs.Strings.{charsAt}
 use Rattle.chars.proofs.characters.Step.{the-type}
-use Rattle.model.proofs.Fields.{digit-range, two-range}
+use Rattle.model.proofs.DateFields.{digit-range, two-range}
 use Rattle.chars.proofs.Facts.{chars-char, chars-none, digit-read}
 use Rattle.date.specs.declared.walk.Number.{Number}
 use Rattle.date.specs.declared.walk.Number.the-variants.{Read, Wrong}

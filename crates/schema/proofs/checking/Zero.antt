@@ -30,7 +30,7 @@ record Fits (d : Located) (w : ℕ) (s : List ℕ) : Type 0 where
   read : HasRoom (readDocument s) w tree
   meets : Meets (bare d) (valueOf s tree)
 
-answer-zero : (m : Mismatch) → (mismatchAnswer m .code ≡ 0) ↔ (m .code ≡ 0)
+pub answer-zero : (m : Mismatch) → (mismatchAnswer m .code ≡ 0) ↔ (m .code ≡ 0)
 answer-zero m =
     both (λ (a : Answer). (a .code ≡ 0) ↔ (m .code ≡ 0)) (eqb (m .code) 0) (λ t. (λ _. eqb-true _ _ t, λ _. refl)) (λ t. (λ z. z, λ z. z))
 
