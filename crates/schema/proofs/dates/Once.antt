@@ -1,6 +1,6 @@
 -- Each value is judged once: of the strings that begin at a place, no more are judged as DateTime than the document has there (02, L3).
 use Prim.Native.Nat.{ℕ, _+_, _≤_}
-use mathlib.Core.Path.{_≡_, refl, sym, ap, subst, _∙_}
+use mathlib.Core.Path.{_≡_, refl, subst}
 use mathlib.Core.Bool.{Bool, true, false, cond, _&&_, _||_}
 use mathlib.Core.Option.{Option, none, some}
 use mathlib.Core.List.{List, [], _∷_, _++_}
@@ -11,7 +11,7 @@ use Rattle.model.specs.Definition.{Named, JSON, Schema, Float, Integer, String,
 use Rattle.model.proofs.Basics.{both, by-test, same-eq, same-refl}
 use Rattle.model.proofs.Formed.{WellFormed, AreFields}
 use Rattle.model.proofs.Samples.{disjoint-at}
-use Rattle.tokens.specs.Tokens.{Kind, Null, False, True, Whole, Fractional, Quoted}
+use Rattle.tokens.specs.Tokens.{Null, False, True, Whole, Fractional, Quoted}
 use Rattle.syntax.specs.Tree.{Node, scalar, array, object, Nodes, none as no-node, more, Members, no-member, member}
 use Rattle.syntax.specs.Rows.{size, sizes, sizesMembers}
 use Rattle.syntax.specs.Grammar.{nameOf}

@@ -1,7 +1,6 @@
 -- The three numbers of moments are what their names say: how many, the earliest and the latest (02, L3).
-use Prim.Native.Nat.{ℕ}
 use mathlib.Core.Path.{_≡_, refl, _∙_}
-use mathlib.Core.Logic.{_⊎_, inl, inr}
+use mathlib.Core.Logic.{inl, inr}
 use mathlib.Core.Bool.{true, false}
 use mathlib.Core.List.{List, [], _∷_, cons≢nil}
 use native.Mathlib.Omega.{arith}

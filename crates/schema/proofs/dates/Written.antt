@@ -9,11 +9,11 @@ use lib.Dec.{eqb, leb}
 use lib.IntN.{ℤ, pos, negℤ}
 use lib.Signed.{leZ}
 use borrow.Author.Tests.{eqb-true}
-use Rattle.model.specs.Definition.{Named, JSON, Schema, Float, Integer, String, Boolean, DateTime}
+use Rattle.model.specs.Definition.{JSON, Schema, Float, Integer, String, Boolean, DateTime}
 use Rattle.model.specs.Date.{isDate, moment}
 use Rattle.model.proofs.Basics.{both, by-test}
 use Rattle.model.proofs.Moments.{least, greatest}
-use Rattle.tokens.specs.Tokens.{Kind, Null, False, True, Whole, Fractional, Quoted}
+use Rattle.tokens.specs.Tokens.{Null, False, True, Whole, Fractional, Quoted}
 use Rattle.tokens.specs.Parse.{Parse, refused, parsed}
 use Rattle.syntax.specs.Tree.{Node, scalar, array, object}
 use Rattle.syntax.specs.Rows.{size}
@@ -23,7 +23,7 @@ use Rattle.syntax.specs.declared.answers.Answer.{Answer}
 use Rattle.definitions.specs.Definitions.{Located, named-at, array-at, map-at, object-at}
 use Rattle.definitions.specs.Accepting.{Accepted, not-accepted, accepted, accept}
 use Rattle.schema.specs.Judging.{mismatch, nothing, dateOf, Visit, value-by, missing-name, mismatchOf, visits, firstMismatch, mismatchAt}
-use Rattle.schema.specs.Dates.{namedMoment, momentOf, moments, OneOf}
+use Rattle.schema.specs.Dates.{momentOf, moments, OneOf}
 use Rattle.schema.specs.Checking.{readDocument, checkedAs, judgedAs, checkAnswer, judgedMoments, checkMoments}
 use Rattle.schema.proofs.judging.Visits.{or-none}
 use Rattle.schema.proofs.checking.Zero.{answer-zero}

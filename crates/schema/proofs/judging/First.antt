@@ -5,7 +5,7 @@ use mathlib.Core.Path.{_≡_, refl, ap, _∙_}
 use mathlib.Core.Logic.{_⊎_, inl, inr}
 use mathlib.Core.Bool.{Bool, true, false, cond}
 use mathlib.Core.Option.{Option, none, some}
-use mathlib.Core.List.{List, [], _∷_, _++_}
+use mathlib.Core.List.{List, [], _++_}
 use lib.Dec.{eqb}
 use borrow.Author.Tests.{eqb-true}
 use Rattle.model.specs.Value.{IsJson, AreJson, AreMembers}
@@ -20,7 +20,7 @@ use Rattle.syntax.specs.Spelling.{valueOf, valuesOf, membersOf}
 use Rattle.syntax.specs.Holding.{Placed, PlacedAll, PlacedMembers}
 use Rattle.definitions.specs.Definitions.{Located, named-at, array-at, map-at, object-at, LocatedFields, no-field, field}
 use Rattle.schema.specs.Judging.{mismatch, nothing, orElse, unless, isWhole, isNumber, isString, isBoolean, ifScalar, dateOf, dateAt}
-use Rattle.schema.specs.Judging.{namedAt, Visit, value-by, eachElement, eachMember, atName, missing, skipped, visits, fieldVisits}
+use Rattle.schema.specs.Judging.{namedAt, Visit, eachElement, eachMember, atName, missing, skipped, visits, fieldVisits}
 use Rattle.schema.specs.Judging.{firstMismatch, mismatchAt}
 use Rattle.rows.specs.Finding.{lookup}
 use Rattle.schema.specs.declared.judging.Mismatch.{Mismatch}

@@ -10,7 +10,7 @@ use Rattle.model.specs.Value.{Value, Values, Among, Under, hasName, isInteger, 
 use Rattle.model.specs.Definition.{Named, JSON, Schema, Float, Integer, String, Boolean, DateTime, definitionOf}
 use Rattle.model.specs.Date.{isDate}
 use Rattle.model.specs.Meeting.{isSome, ifNumber, ifString, ifBoolean, IfArray, IfObject, meetsNamed, HasNames, Meets, FieldsMeet}
-use Rattle.model.proofs.Basics.{both, clash}
+use Rattle.model.proofs.Basics.{clash}
 use Rattle.tokens.specs.Tokens.{Kind, Null, False, True, Whole, Fractional, Quoted}
 use Rattle.syntax.specs.Tree.{Node, scalar, array, object, Nodes, none as no-node, more, Members, no-member, member, placeOf}
 use Rattle.syntax.specs.Grammar.{nameOf}
@@ -18,10 +18,9 @@ use Rattle.syntax.specs.Spelling.{scalarOf, valueOf, valuesOf, membersOf}
 use Rattle.syntax.specs.Holding.{Placed, PlacedAll, PlacedMembers}
 use Rattle.definitions.specs.Definitions.{Located, named-at, array-at, map-at, object-at, LocatedFields, no-field, field, bare, bareFields}
 use Rattle.schema.specs.Judging.{mismatch, nothing, orElse, unless, isWhole, isNumber, isString, isBoolean, ifScalar, dateOf, dateAt}
-use Rattle.schema.specs.Judging.{namedAt, isObject, Visit, value-by, mismatchOf, inArray, inObject, eachElement, eachMember, atName}
+use Rattle.schema.specs.Judging.{namedAt, isObject, Visit, value-by, inArray, inObject, eachElement, eachMember, atName}
 use Rattle.schema.specs.Judging.{missing, skipped, visits, fieldVisits, firstMismatch, mismatchAt}
 use Rattle.rows.specs.Finding.{lookup}
-use Rattle.schema.specs.declared.judging.Mismatch.{Mismatch}
 use Rattle.schema.proofs.judging.Visits.{append-none, one-none}
 use Rattle.schema.proofs.judging.Looking.{not-under, Looked, looked}
 use Rattle.schema.proofs.judging.Codes.{mismatch-code}

@@ -1,7 +1,7 @@
 -- A value against a type name, on plain values: one law for each way out of `judge_named` (01, "Definitions": "First misfit").
 use Prim.Native.Nat.{ℕ}
 use mathlib.Core.Path.{_≡_, refl, sym, ap, subst, _∙_}
-use mathlib.Core.Bool.{Bool, true, false, cond}
+use mathlib.Core.Bool.{Bool, true, false}
 use mathlib.Core.Option.{some}
 use mathlib.Core.List.{List, [], _∷_}
 use native.Mathlib.Omega.{arith}
@@ -10,7 +10,6 @@ use types.Run.{OneOf, miss}
 use lib.Dec.{eqb}
 use lib.IntN.{ℤ}
 use borrow.Author.Tests.{eq-eqb, ne-eqb}
-use Rattle.model.specs.Date.{isDate}
 use Rattle.model.specs.Meeting.{isSome}
 use Rattle.model.specs.Definition.{Named, JSON, Schema, Float, Integer, String, Boolean, DateTime, namedBy, definitionOf}
 use Rattle.tokens.specs.Tokens.{Kind, Null, False, True, Whole, Fractional, Quoted}
@@ -21,10 +20,10 @@ use Rattle.syntax.specs.Holding.{word}
 use Rattle.definitions.specs.Definitions.{Located, named-at, Defined, faulty, fine}
 use Rattle.definitions.specs.Definitions.{definitionAt, faultOf, Defines}
 use Rattle.definitions.specs.Types.{typeName, takesKind}
-use Rattle.schema.specs.Judging.{mismatch, nothing, unless, isWhole, isNumber, isString, isBoolean, ifScalar, dateAt, namedAt}
+use Rattle.schema.specs.Judging.{mismatch, nothing, unless, isWhole, isNumber, isString, isBoolean, ifScalar, namedAt}
 use Rattle.schema.specs.Judging.{value-by, visits}
 use Rattle.schema.specs.Dates.{namedMoment}
-use Rattle.schema.specs.Walks.{Counted, Walks, Judgeable, Judged, JudgedDate}
+use Rattle.schema.specs.Walks.{Walks, Judgeable, Judged, JudgedDate}
 use Rattle.rows.specs.Records.{Reads}
 use Rattle.rows.specs.declared.records.Record.{Record}
 use Rattle.definitions.specs.declared.definitions.Fault.{Fault}
@@ -34,9 +33,8 @@ use Rattle.definitions.specs.declared.types.TypeName.the-variants.{Float as Flo
 use Rattle.definitions.specs.declared.types.TypeName.the-variants.{Boolean as BooleanName, Schema as SchemaName, DateTime as DateTimeName}
 use Rattle.definitions.proofs.types.TypeName.{the-type as type-names}
 use Rattle.definitions.proofs.Facts.{fault-code, forget, definition-forgets, string-type}
-use Rattle.rows.proofs.Facts.{kindOf, kind-read, place-read, string-read}
-use Rattle.schema.proofs.judging.OtherKinds.{no-date}
-use Rattle.schema.proofs.judging.Laws.{walks-fails, walks-date, walks-unless, defined, conclude}
+use Rattle.rows.proofs.Facts.{kindOf, kind-read, place-read}
+use Rattle.schema.proofs.judging.Laws.{walks-unless, defined, conclude}
 
 -- ---- type names
 
