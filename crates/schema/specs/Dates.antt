@@ -33,17 +33,17 @@ namedMoment s Boolean n = []
 namedMoment s DateTime n = stringMoment s n
 
 -- of what is judged
-abbrev pub momentOf : List ℕ → Visit → List ℤ
-momentOf s (value-by (named-at p t) n) = namedMoment s t n
-momentOf s (value-by (array-at p d) n) = []
-momentOf s (value-by (map-at p d) n) = []
-momentOf s (value-by (object-at p r o) n) = []
-momentOf s (missing-name brace q) = []
+abbrev pub visitMoment : List ℕ → Visit → List ℤ
+visitMoment s (value-by (named-at p t) n) = namedMoment s t n
+visitMoment s (value-by (array-at p d) n) = []
+visitMoment s (value-by (map-at p d) n) = []
+visitMoment s (value-by (object-at p r o) n) = []
+visitMoment s (missing-name brace q) = []
 
 -- of all that is judged
 abbrev pub moments : List ℕ → List Visit → List ℤ
 moments s [] = []
-moments s (v ∷ vs) = momentOf s v ++ moments s vs
+moments s (v ∷ vs) = visitMoment s v ++ moments s vs
 
 -- ---- how many, the earliest and the latest
 
@@ -79,15 +79,15 @@ datesOf ms = pos (length ms) ∷ earliest ms ∷ latest ms ∷ []
 -- ---- what holds of the three numbers
 
 -- m is one of the moments
-abbrev pub OneOf : ℤ → List ℤ → Type 0
-OneOf m [] = ⊥
-OneOf m (k ∷ ks) = (m ≡ k) ⊎ OneOf m ks
+abbrev pub Listed : ℤ → List ℤ → Type 0
+Listed m [] = ⊥
+Listed m (k ∷ ks) = (m ≡ k) ⊎ Listed m ks
 
 -- ds are how many moments there are, the earliest and the latest: each of these is one of them, and none is before or behind
 pub record Spans (ms ds : List ℤ) : Type 0 where
   pub count : getD ds 0 (pos 0) ≡ pos (length ms)
   pub none : ms ≡ [] → ds ≡ pos 0 ∷ pos 0 ∷ pos 0 ∷ []
-  pub first : (ms ≡ [] → ⊥) → OneOf (getD ds 1 (pos 0)) ms
-  pub before-none : (m : ℤ) → OneOf m ms → getD ds 1 (pos 0) ≤ℤ m
-  pub last : (ms ≡ [] → ⊥) → OneOf (getD ds 2 (pos 0)) ms
-  pub behind-none : (m : ℤ) → OneOf m ms → m ≤ℤ getD ds 2 (pos 0)
+  pub first : (ms ≡ [] → ⊥) → Listed (getD ds 1 (pos 0)) ms
+  pub before-none : (m : ℤ) → Listed m ms → getD ds 1 (pos 0) ≤ℤ m
+  pub last : (ms ≡ [] → ⊥) → Listed (getD ds 2 (pos 0)) ms
+  pub behind-none : (m : ℤ) → Listed m ms → m ≤ℤ getD ds 2 (pos 0)

@@ -170,6 +170,7 @@ abbrev mutual
 
 -- ---- the first that fails
 
+-- of what is judged, that of the first that fails
 abbrev pub firstMismatch : List ℕ → List Visit → Mismatch
 firstMismatch s [] = nothing
 firstMismatch s (v ∷ vs) = orElse (mismatchOf s v) (firstMismatch s vs)

@@ -18,7 +18,7 @@ use Rattle.syntax.specs.Grammar.{nameOf}
 use Rattle.rows.specs.Finding.{lookup}
 use Rattle.definitions.specs.Definitions.{Located, named-at, array-at, map-at, object-at, LocatedFields, no-field, field, bare, bareFields}
 use Rattle.schema.specs.Judging.{isString, Visit, value-by, missing-name, eachElement, eachMember, atName, missing, skipped, visits, fieldVisits}
-use Rattle.schema.specs.Dates.{momentOf, moments}
+use Rattle.schema.specs.Dates.{visitMoment, moments}
 
 module _ (P : ℕ → Bool) where
   -- how many strings of a value begin at a place that passes
@@ -210,7 +210,7 @@ module _ (P : ℕ → Bool) where
 
 -- ---- so there are no more moments than rows
 
-one-moment : (s : List ℕ) (v : Visit) → length (momentOf s v) ≡ asDate (λ _. true) v
+one-moment : (s : List ℕ) (v : Visit) → length (visitMoment s v) ≡ asDate (λ _. true) v
 one-moment s (value-by (named-at p JSON) n) = refl
 one-moment s (value-by (named-at p Schema) n) = refl
 one-moment s (value-by (named-at p Float) n) = refl
@@ -232,7 +232,7 @@ one-moment s (missing-name brace q) = refl
 
 moments-counted : (s : List ℕ) (vs : List Visit) → length (moments s vs) ≡ asDates (λ _. true) vs
 moments-counted s [] = refl
-moments-counted s (v ∷ vs) = omega (arith, length-append (momentOf s v) (moments s vs), one-moment s v, moments-counted s vs)
+moments-counted s (v ∷ vs) = omega (arith, length-append (visitMoment s v) (moments s vs), one-moment s v, moments-counted s vs)
 
 pub moments-few : (s : List ℕ) (d : Located) → WellFormed (bare d) → (n : Node) → length (moments s (visits s d n)) ≤ size n
 moments-few s d w n = omega (arith, moments-counted s (visits s d n), each-once (λ _. true) s d w n, strings-few (λ _. true) n)

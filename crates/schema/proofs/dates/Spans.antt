@@ -8,7 +8,7 @@ use lib.IntN.{ℤ, pos, negsuc}
 use lib.Signed.{leZ, ltZ, _≤ℤ_, leZ-yes}
 use borrow.Author.Tests.{le-leb, leb-true, ltb-true, ltb-false}
 use Rattle.model.proofs.Basics.{both, by-test, clash, true→T}
-use Rattle.schema.specs.Dates.{lesser, greater, leastOf, greatestOf, earliest, latest, datesOf, OneOf, Spans}
+use Rattle.schema.specs.Dates.{lesser, greater, leastOf, greatestOf, earliest, latest, datesOf, Listed, Spans}
 
 -- ---- the order of moments
 
@@ -56,7 +56,7 @@ unfolding leastOf
 least-first a [] = le-refl a
 least-first a (k ∷ ks) = le-trans (leastOf (lesser k a) ks) (lesser k a) a (least-first (lesser k a) ks) (lesser-right k a)
 
-least-all : (a : ℤ) (ms : List ℤ) (m : ℤ) → OneOf m (a ∷ ms) → leZ (leastOf a ms) m ≡ true
+least-all : (a : ℤ) (ms : List ℤ) (m : ℤ) → Listed m (a ∷ ms) → leZ (leastOf a ms) m ≡ true
 unfolding leastOf
 least-all a ms m (inl e) = rw e (least-first a ms)
 least-all a (k ∷ ks) m (inr (inl e)) = rw e (le-trans (leastOf (lesser k a) ks) (lesser k a) k (least-first (lesser k a) ks) (lesser-left k a))
@@ -67,7 +67,7 @@ unfolding greatestOf
 greatest-first a [] = le-refl a
 greatest-first a (k ∷ ks) = le-trans a (greater a k) (greatestOf (greater a k) ks) (greater-left a k) (greatest-first (greater a k) ks)
 
-greatest-all : (a : ℤ) (ms : List ℤ) (m : ℤ) → OneOf m (a ∷ ms) → leZ m (greatestOf a ms) ≡ true
+greatest-all : (a : ℤ) (ms : List ℤ) (m : ℤ) → Listed m (a ∷ ms) → leZ m (greatestOf a ms) ≡ true
 unfolding greatestOf
 greatest-all a ms m (inl e) = rw e (greatest-first a ms)
 greatest-all a (k ∷ ks) m (inr (inl e)) = rw e (le-trans k (greater a k) (greatestOf (greater a k) ks) (greater-right a k) (greatest-first (greater a k) ks))
@@ -75,7 +75,7 @@ greatest-all a (k ∷ ks) m (inr (inr h)) = greatest-all (greater a k) ks m (inr
 
 -- ---- and both are among them
 
-least-one : (a : ℤ) (ms : List ℤ) → OneOf (leastOf a ms) (a ∷ ms)
+least-one : (a : ℤ) (ms : List ℤ) → Listed (leastOf a ms) (a ∷ ms)
 unfolding leastOf
 least-one a [] = inl refl
 least-one a (k ∷ ks) = elim (least-one (lesser k a) ks) [
@@ -83,7 +83,7 @@ least-one a (k ∷ ks) = elim (least-one (lesser k a) ks) [
   | inr h ↦ inr (inr h)
 ]
 
-greatest-one : (a : ℤ) (ms : List ℤ) → OneOf (greatestOf a ms) (a ∷ ms)
+greatest-one : (a : ℤ) (ms : List ℤ) → Listed (greatestOf a ms) (a ∷ ms)
 unfolding greatestOf
 greatest-one a [] = inl refl
 greatest-one a (k ∷ ks) = elim (greatest-one (greater a k) ks) [

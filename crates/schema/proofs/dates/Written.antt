@@ -23,7 +23,7 @@ use Rattle.syntax.specs.declared.answers.Answer.{Answer}
 use Rattle.definitions.specs.Definitions.{Located, named-at, array-at, map-at, object-at}
 use Rattle.definitions.specs.Accepting.{Accepted, not-accepted, accepted, accept}
 use Rattle.schema.specs.Judging.{mismatch, nothing, dateOf, Visit, value-by, missing-name, mismatchOf, visits, firstMismatch, mismatchAt}
-use Rattle.schema.specs.Dates.{momentOf, moments, OneOf}
+use Rattle.schema.specs.Dates.{visitMoment, moments, Listed}
 use Rattle.schema.specs.Checking.{readDocument, checkedAs, judgedAs, checkAnswer, judgedMoments, checkMoments}
 use Rattle.schema.proofs.judging.Visits.{or-none}
 use Rattle.schema.proofs.checking.Zero.{answer-zero}
@@ -36,12 +36,12 @@ pub record Written (s : List ℕ) (m : ℤ) : Type 0 where
   pub is : m ≡ moment (nameOf s first last)
 
 module _ (s : List ℕ) (m : ℤ) where
-  one-of-two : (xs ys : List ℤ) → OneOf m (xs ++ ys) → OneOf m xs ⊎ OneOf m ys
+  one-of-two : (xs ys : List ℤ) → Listed m (xs ++ ys) → Listed m xs ⊎ Listed m ys
   one-of-two [] ys h = inr h
   one-of-two (x ∷ xs) ys (inl e) = inl (inl e)
   one-of-two (x ∷ xs) ys (inr h) = elim (one-of-two xs ys h) [ inl a ↦ inl (inr a) | inr b ↦ inr b ]
 
-  string-written : (p f e : ℕ) → dateOf s p Quoted f e .code ≡ 0 → OneOf m (moment (nameOf s f e) ∷ []) → Written s m
+  string-written : (p f e : ℕ) → dateOf s p Quoted f e .code ≡ 0 → Listed m (moment (nameOf s f e) ∷ []) → Written s m
   string-written p f e z (inr h) = absurd h
   string-written p f e z (inl q) = record { first = f; last = e; is-date = go (isDate (nameOf s f e)) z; is = q }
     where
@@ -50,7 +50,7 @@ module _ (s : List ℕ) (m : ℤ) where
       go false z = absurd (omega arith)
 
   date-written : (p : ℕ) (n : Node) → mismatchOf s (value-by (named-at p DateTime) n) .code ≡ 0
-      → OneOf m (momentOf s (value-by (named-at p DateTime) n)) → Written s m
+      → Listed m (visitMoment s (value-by (named-at p DateTime) n)) → Written s m
   date-written p (scalar Null f e) z h = absurd h
   date-written p (scalar False f e) z h = absurd h
   date-written p (scalar True f e) z h = absurd h
@@ -60,7 +60,7 @@ module _ (s : List ℕ) (m : ℤ) where
   date-written p (array f e ns) z h = absurd h
   date-written p (object f e ms) z h = absurd h
 
-  one-written : (v : Visit) → mismatchOf s v .code ≡ 0 → OneOf m (momentOf s v) → Written s m
+  one-written : (v : Visit) → mismatchOf s v .code ≡ 0 → Listed m (visitMoment s v) → Written s m
   one-written (value-by (named-at p JSON) n) z h = absurd h
   one-written (value-by (named-at p Schema) n) z h = absurd h
   one-written (value-by (named-at p Float) n) z h = absurd h
@@ -73,11 +73,11 @@ module _ (s : List ℕ) (m : ℤ) where
   one-written (value-by (object-at p r o) n) z h = absurd h
   one-written (missing-name brace q) z h = absurd h
 
-  all-written : (vs : List Visit) → firstMismatch s vs .code ≡ 0 → OneOf m (moments s vs) → Written s m
+  all-written : (vs : List Visit) → firstMismatch s vs .code ≡ 0 → Listed m (moments s vs) → Written s m
   all-written [] z h = absurd h
   all-written (v ∷ vs) z h =
       let o = or-none (mismatchOf s v) (firstMismatch s vs) .0 z in
-      elim (one-of-two (momentOf s v) (moments s vs) h) [ inl a ↦ one-written v (o .0) a | inr b ↦ all-written vs (o .1) b ]
+      elim (one-of-two (visitMoment s v) (moments s vs) h) [ inl a ↦ one-written v (o .0) a | inr b ↦ all-written vs (o .1) b ]
 
 -- ---- of Check's own moments
 
@@ -87,7 +87,7 @@ module _ (w₁ w₂ : ℕ) (document schema : List ℕ) (m : ℤ) where
       both (λ (a : Answer). a .code ≡ 0 → mismatchAt document d n .code ≡ 0) (leb (size n) (rowsIn w₁))
       (λ _ z. answer-zero (mismatchAt document d n) .0 z) (λ _ z. absurd (omega arith))
 
-  pub check-written : OneOf m (checkMoments w₁ w₂ document schema) → Written document m
+  pub check-written : Listed m (checkMoments w₁ w₂ document schema) → Written document m
   unfolding checkMoments checkAnswer
   check-written h =
       let a = accept 2 w₂ schema in
@@ -95,7 +95,7 @@ module _ (w₁ w₂ : ℕ) (document schema : List ℕ) (m : ℤ) where
       (λ t. go a (readDocument document) refl (eqb-true (checkedAs a w₁ document .code) 0 t) (rw t at h))
       (λ t. absurd (rw t at h))
     where
-      go : (a : Accepted) (o : Parse Node) → readDocument document ≡ o → checkedAs a w₁ document .code ≡ 0 → OneOf m (judgedMoments a document o)
+      go : (a : Accepted) (o : Parse Node) → readDocument document ≡ o → checkedAs a w₁ document .code ≡ 0 → Listed m (judgedMoments a document o)
           → Written document m
       go (not-accepted a) o q z h = absurd h
       go (accepted d) (refused c p) q z h = absurd h
@@ -103,7 +103,7 @@ module _ (w₁ w₂ : ℕ) (document schema : List ℕ) (m : ℤ) where
           all-written document m (visits document d n) (judged-zero d n e (subst (λ (o : Parse Node). judgedAs d w₁ document o .code ≡ 0) q z)) h
 
   -- so each lies within the bounds of dates
-  pub check-bounds : OneOf m (checkMoments w₁ w₂ document schema)
+  pub check-bounds : Listed m (checkMoments w₁ w₂ document schema)
       → (leZ (negℤ (pos 62167305540)) m ≡ true) × (leZ m (pos 253402387139) ≡ true)
   check-bounds h =
       let w = check-written h in

@@ -10,7 +10,7 @@ use Rattle.syntax.specs.Tree.{placeOf}
 use Rattle.syntax.specs.Holding.{word}
 use Rattle.definitions.specs.Shapes.{DefinedRow}
 use Rattle.schema.specs.Judging.{mismatch, nothing, orElse, unless, Visit, value-by, mismatchOf, visits, firstMismatch}
-use Rattle.schema.specs.Dates.{momentOf, moments}
+use Rattle.schema.specs.Dates.{visitMoment, moments}
 use Rattle.schema.specs.Walks.{Tallied, Counted, Walks, Judgeable, Judged}
 use Rattle.rows.specs.Records.{Reads}
 use Rattle.rows.specs.declared.records.Record.{Record}
@@ -40,17 +40,17 @@ module _ {s : List ℕ} {ds : List ℤ} where
     pub walks-fails : (vs : List Visit) → m ≡ mismatchOf s v → (m .code ≡ 0 → ⊥) → Walks s (v ∷ vs) m ds ds₂
     walks-fails vs e c = record { first = e ∙ sym (or-stops (mismatchOf s v) (firstMismatch s vs) (rw e at c)); counts = λ z. absurd (c z) }
 
-    pub walks-passes : {vs : List Visit} → mismatchOf s v ≡ nothing → momentOf s v ≡ [] → Walks s vs m ds ds₂ → Walks s (v ∷ vs) m ds ds₂
+    pub walks-passes : {vs : List Visit} → mismatchOf s v ≡ nothing → visitMoment s v ≡ [] → Walks s vs m ds ds₂ → Walks s (v ∷ vs) m ds ds₂
     walks-passes {vs} e k w = record {
       first = w .first ∙ sym (or-goes-on (mismatchOf s v) (firstMismatch s vs) (rw e));
       counts = λ z ms h. rw k (w .counts z ms h);
     }
 
-    pub walks-date : (k : ℤ) → mismatchOf s v ≡ nothing → momentOf s v ≡ k ∷ [] → Counted k ds ds₂ → m ≡ nothing → Walks s (v ∷ []) m ds ds₂
+    pub walks-date : (k : ℤ) → mismatchOf s v ≡ nothing → visitMoment s v ≡ k ∷ [] → Counted k ds ds₂ → m ≡ nothing → Walks s (v ∷ []) m ds ds₂
     walks-date k e q c z = record { first = z ∙ sym (or-goes-on (mismatchOf s v) nothing (rw e)); counts = λ _ ms h. rw q (c ms h) }
 
   -- what is judged by a test alone
-  pub walks-unless : {v : Visit} {m : Mismatch} (b : Bool) (f p : ℕ) → mismatchOf s v ≡ unless b f p → momentOf s v ≡ [] → m ≡ unless b f p
+  pub walks-unless : {v : Visit} {m : Mismatch} (b : Bool) (f p : ℕ) → mismatchOf s v ≡ unless b f p → visitMoment s v ≡ [] → m ≡ unless b f p
       → Walks s (v ∷ []) m ds ds
   walks-unless true f p h k e = walks-passes h k (walks-none e)
   walks-unless false f p h k e = walks-fails [] (e ∙ sym h) (failed e (λ z. omega arith))

@@ -9,7 +9,7 @@ use Rattle.model.proofs.Basics.{both}
 use Rattle.syntax.specs.Tree.{Node}
 use Rattle.definitions.specs.Definitions.{Located, named-at, array-at, map-at, object-at}
 use Rattle.schema.specs.Judging.{orElse, Visit, value-by, mismatchOf, visits, firstMismatch}
-use Rattle.schema.specs.Dates.{momentOf, moments}
+use Rattle.schema.specs.Dates.{visitMoment, moments}
 use Rattle.schema.specs.declared.judging.Mismatch.{Mismatch}
 
 or-assoc : (a b c : Mismatch) → orElse a (orElse b c) ≡ orElse (orElse a b) c
@@ -35,7 +35,7 @@ module _ (s : List ℕ) where
   pub moments-append : (xs ys : List Visit) → moments s (xs ++ ys) ≡ moments s xs ++ moments s ys
   moments-append [] ys = refl
   moments-append (v ∷ xs) ys =
-      ap (λ (ms : List _). momentOf s v ++ ms) (moments-append xs ys) ∙ sym (append-assoc (momentOf s v) (moments s xs) (moments s ys))
+      ap (λ (ms : List _). visitMoment s v ++ ms) (moments-append xs ys) ∙ sym (append-assoc (visitMoment s v) (moments s xs) (moments s ys))
 
   -- a value itself is judged before what it holds
   abbrev pub behind : List Visit → List Visit
