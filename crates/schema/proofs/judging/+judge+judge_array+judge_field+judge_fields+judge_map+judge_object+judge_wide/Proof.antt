@@ -1,6 +1,5 @@
--- The walk over a value and a definition meets its contracts. The measure is three times the rows of the definition, with one more in `judge` and
--- `judge_fields`, two in `judge_field` and `judge_wide`; fields that are absent, at row 0, count none. The loops' invariants are `InArray`, `InMap`,
--- `InFields` and `InWide`: the whole answer is that of the values or fields not yet judged. `Values` and `Fields` have a law for each way out.
+-- The walk over a value and a definition meets its contracts. The loops' invariants are `InArray`, `InMap`, `InFields` and `InWide`: what is left to
+-- judge answers for the whole, from the dates so far. `Values` and `Fields` have a law for each way out, `Measures` what falls at each call.
 -- Below each member's name stands what is known at its places.
 use Prim.Native.Nat.{ℕ, _+_, _-_, _*_, _≤_, _<_}
 use mathlib.Core.Path.{_≡_, sym, _∙_}
@@ -13,7 +12,7 @@ use Rattle.syntax.specs.Holding.{word}
 use Rattle.rows.specs.Records.{ObjectRow}
 use Rattle.rows.specs.Finding.{Finds}
 use Rattle.rows.specs.Matching.{mostNames}
-use Rattle.definitions.proofs.Facts.{spelled, partRows, Under, generic-member, generic-named, FieldHere, field-here}
+use Rattle.definitions.proofs.Facts.{spelled, Under, generic-member, generic-named, FieldHere, field-here}
 use Rattle.rows.proofs.Facts.{in-table, as-row, part-object, row-behind, quotes-read}
 use Rattle.schema.proofs.judging.Values.{GenericRead, reads-array, reads-map, reads-object, Turn, turn-stops, InArray, array-other, array-start}
 use Rattle.schema.proofs.judging.Values.{array-turn, array-next, array-end, InMap, map-other, map-start, map-turn, map-next, map-end}
@@ -21,6 +20,7 @@ use Rattle.schema.proofs.judging.Fields.{InBody, object-other, object-s
 use Rattle.schema.proofs.judging.Fields.{no-fields, fields-begin, fields-judged, field-judgeable, field-fails, field-next, InWide, wide-start}
 use Rattle.schema.proofs.judging.Fields.{wide-sought, wide-next, wide-end, field-value, field-found, field-missing, field-skipped, optional-ends}
 use Rattle.schema.proofs.judging.Fields.{field-rows, sought-field}
+use Rattle.schema.proofs.judging.Measures.{μ-judge, μ-inside, μ-field, μ-fields, μ-wide}
 use borrow.Fn.Kinds.{In}
 use borrow.Fn.PlainCycle.{Measures, is, falls, and}
 use Rattle.schema.proofs.judging.judge.Reads as judge
@@ -51,22 +51,6 @@ use Rattle.rows.proofs.find.Reads as find
 use Rattle.rows.proofs.row_at.Reads as row
 use Rattle.schema.proofs.judging.+judge+judge_array+judge_field+judge_fields+judge_map+judge_object+judge_wide.{statement}
 use Rattle.schema.proofs.judging.+judge+judge_array+judge_field+judge_fields+judge_map+judge_object+judge_wide.Tie.{close}
-
-abbrev μ-judge : Measures 5 judge-kinds.ps ℕ
-μ-judge κs a = 3 * word (a .1 .1 .1 .0 .now) (a .1 .1 .1 .1 .1 .0) 4 + 1
-
--- of `judge_array`, `judge_map` and `judge_object`
-abbrev μ-inside : Measures 5 judge-kinds.ps ℕ
-μ-inside κs a = 3 * word (a .1 .1 .1 .0 .now) (a .1 .1 .1 .1 .1 .0) 4
-
-abbrev μ-field : Measures 5 field-kinds.ps ℕ
-μ-field κs a = 3 * word (a .1 .1 .1 .0 .now) (a .1 .1 .1 .1 .1 .1 .0 + 1) 4 + 2
-
-abbrev μ-fields : Measures 5 fields-kinds.ps ℕ
-μ-fields κs a = 3 * partRows (a .1 .1 .1 .0 .now) (a .1 .1 .1 .1 .1 .0) + 1
-
-abbrev μ-wide : Measures 5 fields-kinds.ps ℕ
-μ-wide κs a = 3 * partRows (a .1 .1 .1 .0 .now) (a .1 .1 .1 .1 .1 .0) + 2
 
 abbrev array-inv : array-lts.InvT-loop
 array-inv document schema rows1 rows2 at by dates₀ left₀ row₀ dates left row = InArray document schema rows1 rows2 at by row left dates₀ dates
@@ -378,19 +362,16 @@ pub +judge+judge-array+judge-field+judge-fields+judge-map+judge-object+judge-wid
     -- ---- judge
     (λ t. judge-lts.spec (judge-claims t) (at t μ-judge judge.Pre) judge.Post
     (λ c κs. in-table (judge-entry t c .pre .1 .schema))  -- row-at-requires
-    (λ c κs. let i = c .before in let r = i .before .before in
-    (judge-entry t (r .before) .pre .1, sym (r .row-at .ensures .kind) ∙ i .if1 .taken))  -- judge-named-requires
+    (λ c κs. let i = c .before in let r = i .before .before in (judge-entry t (r .before) .pre .1, sym (r .row-at .ensures .kind) ∙ i .if1 .taken))  -- judge-named-requires
     (λ c. c .judge-named .ensures)  -- returns
     (λ c. omega (arith, judge-under t c .in-table .here, judge-start t c .good))  -- add-row-at
     (λ c κs. judge-under t c .in-table)  -- row-at-requires-2
     (λ c κs. quotes-read (c .row-at2 .ensures) (judge-under t (c .before) .quoted))  -- between-requires
     (λ c κs. tt)  -- generic-name-requires
     (λ c. search needs)  -- enum-told
-    (λ c κs. let e = c .before in let g = e .before .before in
-    (judge-less t g, reads-array (judge-generic t g) (e .enum-told .given .1)))  -- judge-array-requires
+    (λ c κs. let e = c .before in let g = e .before .before in (judge-less t g, reads-array (judge-generic t g) (e .enum-told .given .1)))  -- judge-array-requires
     (λ c. search needs)  -- enum-told-2
-    (λ c κs. let e = c .before in let g = e .before .before in
-    (judge-less t g, reads-map (judge-generic t g) (e .enum-told2 .given .1)))  -- judge-map-requires
+    (λ c κs. let e = c .before in let g = e .before .before in (judge-less t g, reads-map (judge-generic t g) (e .enum-told2 .given .1)))  -- judge-map-requires
     (λ c κs. let m = c .before in let g = m .before in (judge-less t g, reads-object (judge-generic t g) (m .match .keys3)))  -- judge-object-requires
     (λ c. c .judge-array .ensures)  -- returns-2
     (λ c. c .judge-map .ensures)  -- returns-3
