@@ -72,9 +72,6 @@ latest-more (m ∷ ms) k h = greatest-more m k ms
 
 -- ---- the count
 
-capped-less : (n : ℕ) → n < mostDates → capped n ≡ n
-capped-less n h = rw (le-leb n mostDates (omega arith))
-
 capped-more : (n : ℕ) → capped n < mostDates → capped (n + 1) ≡ capped n + 1
 capped-more n h =
     by-test (leb n mostDates)
