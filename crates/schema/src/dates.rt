@@ -10,7 +10,7 @@ const EARLIEST: usize = 1;
 
 const LATEST: usize = 2;
 
-// No document has more values, so that no count is left behind.
+// The count stops here, so that one more is defined whatever is lent. No document has more values.
 const MOST: i64 = 65536;
 
 fn lesser_of(a: i64, b: i64) -> i64
