@@ -27,7 +27,7 @@ from model_check import MEETS, NAME_SHARED, NO_DATE, NO_DEFINITION, WRONG_KIND, 
 from model_dates import DAY, MONTHS, NUMBERS, check_dates, days_in_year, moment
 
 DEFAULT_COUNT = 24000
-RANDOM_DATES = 120000
+RANDOM_DATES = 180000
 LENGTHS = [1, 1, 1, 2, 3, 5, 8]     # of lists of random dates
 TIMES = 997                         # that the days take turns with
 YEARS = range(10000)
