@@ -1,9 +1,9 @@
--- For private contracts: the rows of a text as the first pass keeps them, a word for each, until the table may be written.
+-- For private contracts: the entries of a text as the first pass keeps them, a word for each, until the table may be written.
 use Prim.Native.Nat.{ℕ, _+_, _-_, _*_, _/_, _%_}
 use mathlib.Core.Bool.{Bool, cond}
-use mathlib.Core.List.{List, [], _∷_, _++_}
+use mathlib.Core.List.{List, [], _∷_}
 use lib.Dec.{eqb, ltb}
-use Rattle.syntax.specs.Rows.{row}
+use Rattle.syntax.specs.Rows.{Entry, entry}
 use Rattle.marks.specs.Packing.{packed, firstIn, secondIn, thirdIn, fourthIn}
 
 -- a value that holds no other: its first byte, its last, 0 and its kind
@@ -22,13 +22,13 @@ nameMark f e link hash = packed (e - 1) f link hash
 unfoldable pub isName : ℕ → Bool
 isName x = ltb (secondIn x) (firstIn x)
 
--- the row that a mark stands for
-unfoldable pub markRow : ℕ → List ℕ
-markRow x =
-    cond (isName x) (row 9 (secondIn x) (firstIn x + 1) 0 1)
-    (cond (eqb (thirdIn x) 0) (row (fourthIn x) (firstIn x) (secondIn x + 1) 0 1)
-    (row (7 + fourthIn x % 2) (firstIn x) (secondIn x + 1) (fourthIn x / 2) (thirdIn x)))
+-- the entry that a mark stands for
+unfoldable pub markEntry : ℕ → Entry
+markEntry x =
+    cond (isName x) (entry 9 (secondIn x) (firstIn x + 1) 0 1)
+    (cond (eqb (thirdIn x) 0) (entry (fourthIn x) (firstIn x) (secondIn x + 1) 0 1)
+    (entry (7 + fourthIn x % 2) (firstIn x) (secondIn x + 1) (fourthIn x / 2) (thirdIn x)))
 
-unfoldable pub markRows : List ℕ → List ℕ
-markRows [] = []
-markRows (x ∷ xs) = markRow x ++ markRows xs
+unfoldable pub markEntries : List ℕ → List Entry
+markEntries [] = []
+markEntries (x ∷ xs) = markEntry x ∷ markEntries xs

@@ -2,7 +2,7 @@
 use Prim.Native.Nat.{ℕ, _+_, _*_, _≤_, _<_}
 use mathlib.Core.Path.{_≡_}
 use mathlib.Core.Bool.{false}
-use mathlib.Core.List.{List, _++_}
+use mathlib.Core.List.{List, [], _∷_, _++_}
 use lib.ListN.{length, take, set}
 use lib.Seq.{slice}
 use Rattle.chars.specs.Bytes.{byteAt}
@@ -11,9 +11,9 @@ use Rattle.tokens.specs.Space.{skip}
 use Rattle.tokens.specs.Scalars.{firstOf}
 use Rattle.tokens.specs.declared.scalars.First.{First}
 use Rattle.syntax.specs.Tree.{Node, Members}
-use Rattle.syntax.specs.Rows.{size, sizesMembers, words, wordsMembers}
+use Rattle.syntax.specs.Rows.{size, sizesMembers, entries, entriesMembers}
 use Rattle.syntax.specs.Grammar.{valueAt, memberAt}
-use Rattle.marks.specs.Marks.{isName, markRow, markRows}
+use Rattle.marks.specs.Marks.{isName, markEntry, markEntries}
 use Rattle.marks.specs.Names.{Fresh, Within, Kept, Index}
 use Rattle.reader.specs.declared.scanning.Following.{Following}
 use Rattle.reader.specs.declared.scanning.Following.the-variants.{Closing, Item, Other}
@@ -70,7 +70,7 @@ Follows closing s j (Other i) = (i ≡ j) × (byteAt s j ≡ 0x2C → ⊥) × (b
 -- the mark is no name's
 abbrev pub LeafAfter : Parse Node → ℕ → List ℕ → List ℕ → Type 0
 LeafAfter (refused c p) row ms ms₂ = ms₂ ≡ ms
-LeafAfter (parsed n e) row ms ms₂ = (x : ℕ) × (ms₂ ≡ set ms row x) × (markRow x ≡ words n) × (isName x ≡ false)
+LeafAfter (parsed n e) row ms ms₂ = (x : ℕ) × (ms₂ ≡ set ms row x) × (markEntry x ∷ [] ≡ entries n) × (isName x ≡ false)
 
 pub record LeafTold (o : Parse Node) (r : Scanned) (row : ℕ) (ms ms₂ : List ℕ) : Type 0 where
   pub scan : r ≡ scanOf o
@@ -81,7 +81,7 @@ pub record Marked (s : List ℕ) (n : Node) (row : ℕ) (ms hs₂ ms₂ : List �
   pub index : Index hs₂ ms₂
   pub fresh : Fresh ms₂ (row + size n)
   pub below : take row ms₂ ≡ take row ms
-  pub rows : markRows (slice row (row + size n) ms₂) ≡ words n
+  pub rows : markEntries (slice row (row + size n) ms₂) ≡ entries n
   pub owned : Within s ms₂ row row (row + size n)
 
 -- nothing is said behind a refusal
@@ -99,7 +99,7 @@ pub record MemberMarked (s : List ℕ) (before all : Members) (k o row : ℕ) (m
   pub index : Index hs₂ ms₂
   pub fresh : Fresh ms₂ (row + k)
   pub below : take row ms₂ ≡ take row ms
-  pub rows : wordsMembers all ≡ wordsMembers before ++ markRows (slice row (row + k) ms₂)
+  pub rows : entriesMembers all ≡ entriesMembers before ++ markEntries (slice row (row + k) ms₂)
   pub kept : Kept s o ms₂ (o + 1) all
 
 abbrev pub MemberScan : List ℕ → Members → Parse Members → Scanned → (o row : ℕ) → (ms hs₂ ms₂ : List ℕ) → Type 0

@@ -10,4 +10,5 @@ pub use matching::MOST_NAMES;
 pub use matching::match_names;
 pub use matching::wide;
 pub use records::Record;
+pub use records::parent_at;
 pub use records::row_at;

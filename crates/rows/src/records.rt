@@ -1,7 +1,7 @@
-// Rows of a table (01, "Rows").
-use syntax::ROW_WORDS;
+// Rows of a table (01, "Rows"; 02, L11).
+use syntax::word;
 ghost use mathlib.Core.Path.{_≡_};
-ghost use Prim.Native.Nat.{_+_, _*_, _≤_, _<_};
+ghost use Prim.Native.Nat.{_+_, _*_, _≤_};
 ghost use lib.ListN.{length};
 ghost use Rattle.syntax.specs.Rows.{rowWords};
 ghost use Rattle.syntax.specs.Holding.{word as wordOf};
@@ -16,14 +16,6 @@ pub struct Record {
     pub next: usize,
 }
 
-// A word of a row.
-fn word(table: &[u32], row: usize, i: usize) -> u32
-    requires { ⌜ (i < rowWords) × (rowWords * (row + 1) ≤ length (now table)) ⌝ }
-    ensures { λ r. ⌜ r ≡ wordOf (now (table .entry)) row i ⌝ }
-{
-    table[ROW_WORDS * row + i]
-}
-
 // A row, read whole.
 pub fn row_at(table: &[u32], row: usize) -> Record
     requires { ⌜ InTable (now table) row ⌝ }
@@ -36,4 +28,12 @@ pub fn row_at(table: &[u32], row: usize) -> Record
         children: word(table, row, 3),
         next: row + word(table, row, 4) as usize,
     }
+}
+
+// The row of the array or object that a row stands in.
+pub fn parent_at(table: &[u32], row: usize) -> usize
+    requires { ⌜ rowWords * (row + 1) ≤ length (now table) ⌝ }
+    ensures { λ r. ⌜ r ≡ wordOf (now (table .entry)) row 5 ⌝ }
+{
+    word(table, row, 5) as usize
 }

@@ -42,7 +42,12 @@ read-example : read (text "{\"a\":[1,true]}") ≡ parsed example 14
 unfolding within
 read-example = refl
 
-rows-example : words example ≡ 8 ∷ 0 ∷ 14 ∷ 1 ∷ 5 ∷ 9 ∷ 1 ∷ 4 ∷ 0 ∷ 1 ∷ 7 ∷ 5 ∷ 13 ∷ 2 ∷ 3 ∷ 4 ∷ 6 ∷ 7 ∷ 0 ∷ 1 ∷ 3 ∷ 8 ∷ 12 ∷ 0 ∷ 1 ∷ []
+rows-example : words example ≡ 8 ∷ 0 ∷ 14 ∷ 1 ∷ 5 ∷ 0
+    ∷ 9 ∷ 1 ∷ 4 ∷ 0 ∷ 1 ∷ 0
+    ∷ 7 ∷ 5 ∷ 13 ∷ 2 ∷ 3 ∷ 0
+    ∷ 4 ∷ 6 ∷ 7 ∷ 0 ∷ 1 ∷ 2
+    ∷ 3 ∷ 8 ∷ 12 ∷ 0 ∷ 1 ∷ 2
+    ∷ []
 rows-example = refl
 
 value-example : valueOf (text "{\"a\":[1,true]}") example ≡ record-of (mcons (text "a") (list (vcons (number (text "1")) (vcons (boolean true) vnil))) mnil)
@@ -256,21 +261,22 @@ five = parsed example 14
 abbrev one : Parse Node
 one = parsed (scalar Null 0 4) 4
 
--- a table of w words holds w/5 rows: too few, one word less, exactly enough, a part of a row more; a refusal keeps its code whatever the table
+-- a table of w words holds w/6 rows: too few, one word less, exactly enough, a part of a row more; a refusal keeps its code whatever the table
 answers : (answerOf 1 0 one ≡ answer 8 1 0 1)
     × (answerOf 1 1 one ≡ answer 8 1 0 1)
     × (answerOf 1 2 one ≡ answer 8 1 0 1)
     × (answerOf 1 3 one ≡ answer 8 1 0 1)
     × (answerOf 1 4 one ≡ answer 8 1 0 1)
-    × (answerOf 1 5 one ≡ answer 0 0 0 1)
+    × (answerOf 1 5 one ≡ answer 8 1 0 1)
+    × (answerOf 1 6 one ≡ answer 0 0 0 1)
     × (answerOf 1 0 five ≡ answer 8 1 0 5)
-    × (answerOf 2 24 five ≡ answer 8 2 0 5)
-    × (answerOf 2 25 five ≡ answer 0 0 0 5)
-    × (answerOf 1 29 five ≡ answer 0 0 0 5)
+    × (answerOf 2 29 five ≡ answer 8 2 0 5)
+    × (answerOf 2 30 five ≡ answer 0 0 0 5)
+    × (answerOf 1 35 five ≡ answer 0 0 0 5)
     × (answerOf 1 0 (refused 3 7) ≡ answer 3 1 7 0)
-    × (answerOf 2 25 (refused 6 9) ≡ answer 6 2 9 0)
+    × (answerOf 2 30 (refused 6 9) ≡ answer 6 2 9 0)
 unfolding answerOf
-answers = (refl, refl, refl, refl, refl, refl, refl, refl, refl, refl, refl, refl)
+answers = (refl, refl, refl, refl, refl, refl, refl, refl, refl, refl, refl, refl, refl)
 
 -- a table without room, and that of a refused text, is as found; the words behind the last row are as found
 tables : (tableOf [] one ≡ [])
@@ -278,11 +284,12 @@ tables : (tableOf [] one ≡ [])
     × (tableOf (9 ∷ 8 ∷ []) one ≡ 9 ∷ 8 ∷ [])
     × (tableOf (9 ∷ 8 ∷ 7 ∷ []) one ≡ 9 ∷ 8 ∷ 7 ∷ [])
     × (tableOf (9 ∷ 8 ∷ 7 ∷ 6 ∷ []) one ≡ 9 ∷ 8 ∷ 7 ∷ 6 ∷ [])
-    × (tableOf (9 ∷ 8 ∷ 7 ∷ 6 ∷ 5 ∷ []) one ≡ 1 ∷ 0 ∷ 4 ∷ 0 ∷ 1 ∷ [])
-    × (tableOf (9 ∷ 8 ∷ 7 ∷ 6 ∷ 5 ∷ 4 ∷ 3 ∷ []) one ≡ 1 ∷ 0 ∷ 4 ∷ 0 ∷ 1 ∷ 4 ∷ 3 ∷ [])
-    × (tableOf (replicate 24 9) five ≡ replicate 24 9)
-    × (tableOf (replicate 25 9) five ≡ words example)
-    × (tableOf (replicate 27 9) five ≡ words example ++ (9 ∷ 9 ∷ []))
+    × (tableOf (9 ∷ 8 ∷ 7 ∷ 6 ∷ 5 ∷ []) one ≡ 9 ∷ 8 ∷ 7 ∷ 6 ∷ 5 ∷ [])
+    × (tableOf (9 ∷ 8 ∷ 7 ∷ 6 ∷ 5 ∷ 4 ∷ []) one ≡ 1 ∷ 0 ∷ 4 ∷ 0 ∷ 1 ∷ 0 ∷ [])
+    × (tableOf (9 ∷ 8 ∷ 7 ∷ 6 ∷ 5 ∷ 4 ∷ 3 ∷ 2 ∷ []) one ≡ 1 ∷ 0 ∷ 4 ∷ 0 ∷ 1 ∷ 0 ∷ 3 ∷ 2 ∷ [])
+    × (tableOf (replicate 29 9) five ≡ replicate 29 9)
+    × (tableOf (replicate 30 9) five ≡ words example)
+    × (tableOf (replicate 32 9) five ≡ words example ++ (9 ∷ 9 ∷ []))
     × (tableOf (9 ∷ 8 ∷ 7 ∷ 6 ∷ 5 ∷ []) (refused 3 7) ≡ 9 ∷ 8 ∷ 7 ∷ 6 ∷ 5 ∷ [])
 unfolding tableOf
-tables = (refl, refl, refl, refl, refl, refl, refl, refl, refl, refl, refl)
+tables = (refl, refl, refl, refl, refl, refl, refl, refl, refl, refl, refl, refl)

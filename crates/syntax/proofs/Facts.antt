@@ -10,8 +10,9 @@ pub use Rattle.syntax.proofs.Values.{name-stopped, name-again, name-new
 pub use Rattle.syntax.proofs.Values.{member-value, member-parsed}
 -- a rule for whatever is read
 pub use Rattle.syntax.proofs.Induction.{Rule, read-begins, value-rule}
--- rows: how many, which words, and the tree that they hold
+-- rows: how many, which entries, which words, and the tree that they hold
 pub use Rattle.syntax.proofs.Sizes.{size-pos, count-few, countMembers-few, count-add, countMembers-add, sizes-add, sizesMembers-add}
-pub use Rattle.syntax.proofs.Sizes.{wordsAll-add, wordsMembers-add}
-pub use Rattle.syntax.proofs.rows.Laws.{stored}
+pub use Rattle.syntax.proofs.Sizes.{entriesAll-add, entriesMembers-add}
+pub use Rattle.syntax.proofs.rows.Each.{Each, each, each-left, each-right, each-join, each-at}
+pub use Rattle.syntax.proofs.rows.Laws.{entries-length, parents-length, noEntry, laid-length, laid-word, stored}
 pub use Rattle.syntax.proofs.Holding.{holds-same, kind-same, kind-small}

@@ -3,16 +3,17 @@ use mathlib.Core.Path.{_≡_, refl, sym, ap, ap₂, _∙_}
 use mathlib.Core.List.{List, [], _∷_, _++_}
 use Prim.Native.Nat.{ℕ, suc, _+_, _*_, _≤_, _<_}
 use native.Mathlib.Omega.{arith}
-use lib.ListN.{length, getD, drop, length-append, List·getD-append}
-use lib.Seq.{getD-append-add}
+use lib.ListN.{length, getD, take, drop, length-append, List·getD-append}
 use borrow.Author.Tests.{le-leb}
 use Rattle.tokens.specs.Parse.{parsed}
 use Rattle.tokens.specs.Tokens.{Kind, Null, False, True, Whole, Fractional, Quoted, kindNumber}
 use Rattle.syntax.specs.Tree.{Node, scalar, array, object, Nodes, none, more, Members, no-member, member}
-use Rattle.syntax.specs.Rows.{rowWords, row, count, countMembers, size, sizes, sizesMembers, words, wordsAll, wordsMembers}
+use Rattle.syntax.specs.Rows.{Entry, entry, count, countMembers, size, sizes, sizesMembers, entries, entriesAll, entriesMembers}
+use Rattle.syntax.specs.Rows.{parents, parentsAll, parentsMembers, rowWords, row, words}
 use Rattle.syntax.specs.Answer.{rowsIn, tableOf}
-use Rattle.syntax.specs.Holding.{Row, Holds, HoldsAll, HoldsMembers}
-use Rattle.syntax.proofs.rows.Laws.{words-length}
+use Rattle.syntax.specs.Holding.{word, Row, Holds, HoldsAll, HoldsMembers, Nested, NestedAll, NestedMembers}
+use Rattle.syntax.proofs.rows.Each.{Each, each, each-left, each-right}
+use Rattle.syntax.proofs.rows.Laws.{entries-length, parents-length, noEntry, words-length, words-word}
 
 -- ---- the number of a kind
 
@@ -70,78 +71,106 @@ mutual
       let x : n ≡ m = holds-same t (r + 1) n m (h .1) (j .1) in
       cc (holdsMembers-same t (r + 1 + size n) ns ms (omega arith) (h .2) (rw (← x) at (j .2)))
 
--- ---- the words of a tree
+-- ---- the tree that a table holds
 
--- the words ws stand at i
-abbrev pub Stand : List ℕ → ℕ → List ℕ → Type 0
-Stand t i ws = (j : ℕ) → j < length ws → getD t (i + j) 0 ≡ getD ws j 0
+-- row r has the words of an entry
+abbrev Says : List ℕ → ℕ → Entry → Type 0
+Says t r x = (k : ℕ) → k < 5 → word t r k ≡ getD (row x 0) k 0
 
-pub stand-left : (t : List ℕ) (i : ℕ) (xs ys : List ℕ) → Stand t i (xs ++ ys) → Stand t i xs
-stand-left t i xs ys h j l = h j (omega (arith, length-append xs ys)) ∙ List·getD-append xs ys 0 j l
-
-pub stand-right : (t : List ℕ) (i : ℕ) (xs ys : List ℕ) (k : ℕ) → k ≡ i + length xs → Stand t i (xs ++ ys) → Stand t k ys
-stand-right t i xs ys k e h j l =
-    let q : k + j ≡ i + (length xs + j) = omega arith in
-    rw q (h (length xs + j) (omega (arith, length-append xs ys)) ∙ getD-append-add xs ys j 0)
-
--- the words of a row, and others behind them
-module _ (t : List ℕ) (r k f e children rows : ℕ) (ws : List ℕ) (h : Stand t (rowWords * r) (row k f e children rows ++ ws)) where
-  stand-row : rowWords * (r + rows) ≤ length t → Row t r k f e children rows
-  stand-row l = record {
-    kind = h 0 (omega arith);
-    first = h 1 (omega arith);
-    last = h 2 (omega arith);
-    direct = h 3 (omega arith);
-    subtree = h 4 (omega arith);
-    room = l;
-  }
-
-  stand-behind : Stand t (rowWords * (r + 1)) ws
-  stand-behind = stand-right t (rowWords * r) (row k f e children rows) ws (rowWords * (r + 1)) (omega arith) h
-
--- the words of a tree, and others behind them
-module _ (t : List ℕ) (r : ℕ) (n : Node) (ws : List ℕ) (h : Stand t (rowWords * r) (words n ++ ws)) where
-  stand-tree : Stand t (rowWords * r) (words n)
-  stand-tree = stand-left t (rowWords * r) (words n) ws h
-
-  stand-sibling : Stand t (rowWords * (r + size n)) ws
-  stand-sibling = stand-right t (rowWords * r) (words n) ws (rowWords * (r + size n)) (omega (arith, words-length n)) h
+says-row : {t : List ℕ} {r k f e children rows : ℕ} → Says t r (entry k f e children rows) → rowWords * (r + rows) ≤ length t
+    → Row t r k f e children rows
+says-row h l = record {
+  kind = h 0 (omega arith);
+  first = h 1 (omega arith);
+  last = h 2 (omega arith);
+  direct = h 3 (omega arith);
+  subtree = h 4 (omega arith);
+  room = l;
+}
 
 mutual
-  pub stands : (t : List ℕ) (r : ℕ) (n : Node) → rowWords * (r + size n) ≤ length t → Stand t (rowWords * r) (words n) → Holds t r n
-  stands t r (scalar k f e) l h = stand-row t r (kindNumber k) f e 0 1 [] h l
-  stands t r (array f e ns) l h = (
-    stand-row t r 7 f e (count ns) (suc (sizes ns)) (wordsAll ns) h l,
-    stand-all t (r + 1) ns (omega arith) (stand-behind t r 7 f e (count ns) (suc (sizes ns)) (wordsAll ns) h),
-  )
-  stands t r (object f e ms) l h = (
-    stand-row t r 8 f e (countMembers ms) (suc (sizesMembers ms)) (wordsMembers ms) h l,
-    stand-members t (r + 1) ms (omega arith) (stand-behind t r 8 f e (countMembers ms) (suc (sizesMembers ms)) (wordsMembers ms) h),
+  said : (t : List ℕ) (r : ℕ) (n : Node) → rowWords * (r + size n) ≤ length t → Each (Says t) r (entries n) → Holds t r n
+  said t r (scalar k f e) l h = says-row (h .0) l
+  said t r (array f e ns) l h = (says-row (h .0) l, said-all t (r + 1) ns (omega arith) (h .1))
+  said t r (object f e ms) l h = (says-row (h .0) l, said-members t (r + 1) ms (omega arith) (h .1))
+
+  said-all : (t : List ℕ) (r : ℕ) (ns : Nodes) → rowWords * (r + sizes ns) ≤ length t → Each (Says t) r (entriesAll ns) → HoldsAll t r ns
+  said-all t r none l h = tt
+  said-all t r (more n ns) l h = (
+    said t r n (omega arith) (each-left (Says t) r (entries n) (entriesAll ns) h),
+    said-all t (r + size n) ns (omega arith) (each-right (Says t) r (entries n) (entriesAll ns) (omega (arith, entries-length n)) h),
   )
 
-  stand-all : (t : List ℕ) (r : ℕ) (ns : Nodes) → rowWords * (r + sizes ns) ≤ length t → Stand t (rowWords * r) (wordsAll ns) → HoldsAll t r ns
-  stand-all t r none l h = tt
-  stand-all t r (more n ns) l h = (
-    stands t r n (omega arith) (stand-tree t r n (wordsAll ns) h),
-    stand-all t (r + size n) ns (omega arith) (stand-sibling t r n (wordsAll ns) h),
-  )
-
-  stand-members : (t : List ℕ) (r : ℕ) (ms : Members) → rowWords * (r + sizesMembers ms) ≤ length t → Stand t (rowWords * r) (wordsMembers ms)
+  said-members : (t : List ℕ) (r : ℕ) (ms : Members) → rowWords * (r + sizesMembers ms) ≤ length t → Each (Says t) r (entriesMembers ms)
       → HoldsMembers t r ms
-  stand-members t r no-member l h = tt
-  stand-members t r (member f e n ms) l h =
-      let g = stand-behind t r 9 f e 0 1 (words n ++ wordsMembers ms) h in (
-        stand-row t r 9 f e 0 1 (words n ++ wordsMembers ms) h (omega arith),
-        stands t (r + 1) n (omega arith) (stand-tree t (r + 1) n (wordsMembers ms) g),
-        stand-members t (r + 1 + size n) ms (omega arith) (stand-sibling t (r + 1) n (wordsMembers ms) g),
+  said-members t r no-member l h = tt
+  said-members t r (member f e n ms) l h = (
+    says-row (h .0) (omega arith),
+    said t (r + 1) n (omega arith) (each-left (Says t) (r + 1) (entries n) (entriesMembers ms) (h .1)),
+    said-members t (r + 1 + size n) ms (omega arith)
+        (each-right (Says t) (r + 1) (entries n) (entriesMembers ms) (omega (arith, entries-length n)) (h .1)),
+  )
+
+-- row r stands in row p
+abbrev StandsIn : List ℕ → ℕ → ℕ → Type 0
+StandsIn t r p = word t r 5 ≡ p
+
+mutual
+  nested : (t : List ℕ) (p r : ℕ) (n : Node) → Each (StandsIn t) r (parents p r n) → Nested t p r n
+  nested t p r (scalar k f e) h = h .0
+  nested t p r (array f e ns) h = (h .0, nested-all t r (r + 1) ns (h .1))
+  nested t p r (object f e ms) h = (h .0, nested-members t r (r + 1) ms (h .1))
+
+  nested-all : (t : List ℕ) (p r : ℕ) (ns : Nodes) → Each (StandsIn t) r (parentsAll p r ns) → NestedAll t p r ns
+  nested-all t p r none h = tt
+  nested-all t p r (more n ns) h =
+      let rest = parentsAll p (r + size n) ns in (
+        nested t p r n (each-left (StandsIn t) r (parents p r n) rest h),
+        nested-all t p (r + size n) ns (each-right (StandsIn t) r (parents p r n) rest (omega (arith, parents-length p r n)) h),
       )
 
-pub words-holds : (n : Node) (rest : List ℕ) → Holds (words n ++ rest) 0 n
-words-holds n rest =
-    stands (words n ++ rest) 0 n (omega (arith, length-append (words n) rest, words-length n))
-    (λ j l. (let e : rowWords * 0 + j ≡ j = omega arith in rw e) ∙ List·getD-append (words n) rest 0 j l)
+  nested-members : (t : List ℕ) (p r : ℕ) (ms : Members) → Each (StandsIn t) r (parentsMembers p r ms) → NestedMembers t p r ms
+  nested-members t p r no-member h = tt
+  nested-members t p r (member f e n ms) h =
+      let rest = parentsMembers p (r + 1 + size n) ms in (
+        h .0,
+        nested t p (r + 1) n (each-left (StandsIn t) (r + 1) (parents p (r + 1) n) rest (h .1)),
+        nested-members t p (r + 1 + size n) ms
+            (each-right (StandsIn t) (r + 1) (parents p (r + 1) n) rest (omega (arith, parents-length p (r + 1) n)) (h .1)),
+      )
+
+-- ---- the words of a tree
+
+-- words of a row, but for the last, do not go by the row that it stands in
+entry-word : (x : Entry) (p k : ℕ) → k < 5 → getD (row x p) k 0 ≡ getD (row x 0) k 0
+entry-word x p k l = List·getD-append (take 5 (row x p)) (p ∷ []) 0 k l ∙ sym (List·getD-append (take 5 (row x 0)) (0 ∷ []) 0 k l)
+
+module _ (n : Node) (rest : List ℕ) where
+  pub words-holds : Holds (words n ++ rest) 0 n
+  words-holds =
+      said (words n ++ rest) 0 n (omega (arith, length-append (words n) rest, words-length n))
+      (each (Says (words n ++ rest)) noEntry 0 (entries n)
+      (λ j l k m. (let z : 0 + j ≡ j = omega arith in rw z)
+      ∙ words-word n rest j k (omega (arith, entries-length n)) (omega arith)
+      ∙ entry-word (getD (entries n) j noEntry) (getD (parents 0 0 n) j 0) k m))
+
+  pub words-nested : Nested (words n ++ rest) 0 0 n
+  words-nested =
+      nested (words n ++ rest) 0 0 n
+      (each (StandsIn (words n ++ rest)) 0 0 (parents 0 0 n)
+      (λ j l. (let z : 0 + j ≡ j = omega arith in rw z) ∙ words-word n rest j 5 (omega (arith, parents-length 0 0 n)) (omega arith)))
 
 -- the table after a text that was read and had room
-pub table-holds : (t : List ℕ) (n : Node) (e : ℕ) → size n ≤ rowsIn (length t) → Holds (tableOf t (parsed n e)) 0 n
-unfolding tableOf
-table-holds t n e h = rw (le-leb (size n) (rowsIn (length t)) h) (words-holds n (drop (rowWords * size n) t))
+module _ (t : List ℕ) (n : Node) (e : ℕ) (h : size n ≤ rowsIn (length t)) where
+  abbrev behind : List ℕ
+  behind = drop (rowWords * size n) t
+
+  written : tableOf t (parsed n e) ≡ words n ++ behind
+  unfolding tableOf
+  written = rw (le-leb (size n) (rowsIn (length t)) h)
+
+  pub table-holds : Holds (tableOf t (parsed n e)) 0 n
+  table-holds = rw written (words-holds n behind)
+
+  pub table-nested : Nested (tableOf t (parsed n e)) 0 0 n
+  table-nested = rw written (words-nested n behind)

@@ -1,10 +1,10 @@
--- Rows: how many one element or member more adds, and which words.
+-- Rows: how many one element or member more adds, and which entries.
 use mathlib.Core.Path.{_≡_, refl}
-use mathlib.Core.List.{_++_, append-assoc, append-nil}
+use mathlib.Core.List.{[], _∷_, _++_, append-assoc, append-nil}
 use Prim.Native.Nat.{ℕ, _+_, _≤_, _<_}
 use native.Mathlib.Omega.{arith}
 use Rattle.syntax.specs.Tree.{Node, scalar, array, object, Nodes, none, more, addNode, Members, no-member, member, addMember}
-use Rattle.syntax.specs.Rows.{row, count, countMembers, size, sizes, sizesMembers, words, wordsAll, wordsMembers}
+use Rattle.syntax.specs.Rows.{entry, count, countMembers, size, sizes, sizesMembers, entries, entriesAll, entriesMembers}
 
 pub size-pos : (n : Node) → 0 < size n
 size-pos (scalar k f e) = omega arith
@@ -25,9 +25,9 @@ pub count-few : (ns : Nodes) → count ns ≤ sizes ns
 count-few none = omega arith
 count-few (more n ns) = omega (arith, size-pos n, count-few ns)
 
-pub wordsAll-add : (ns : Nodes) (n : Node) → wordsAll (addNode ns n) ≡ wordsAll ns ++ words n
-wordsAll-add none n = append-nil (words n)
-wordsAll-add (more m ns) n = rw (wordsAll-add ns n, append-assoc)
+pub entriesAll-add : (ns : Nodes) (n : Node) → entriesAll (addNode ns n) ≡ entriesAll ns ++ entries n
+entriesAll-add none n = append-nil (entries n)
+entriesAll-add (more m ns) n = rw (entriesAll-add ns n, append-assoc)
 
 -- ---- members
 
@@ -39,9 +39,9 @@ pub countMembers-add : (ms : Members) (f e : ℕ) (n : Node) → countMembers (a
 countMembers-add no-member f e n = refl
 countMembers-add (member g h m ms) f e n = omega (arith, countMembers-add ms f e n)
 
-pub wordsMembers-add : (ms : Members) (f e : ℕ) (n : Node) → wordsMembers (addMember ms f e n) ≡ wordsMembers ms ++ (row 9 f e 0 1 ++ words n)
-wordsMembers-add no-member f e n = rw append-nil
-wordsMembers-add (member g h m ms) f e n = simp (wordsMembers-add ms f e n, append-assoc)
+pub entriesMembers-add : (ms : Members) (f e : ℕ) (n : Node) → entriesMembers (addMember ms f e n) ≡ entriesMembers ms ++ (entry 9 f e 0 1 ∷ entries n)
+entriesMembers-add no-member f e n = rw append-nil
+entriesMembers-add (member g h m ms) f e n = simp (entriesMembers-add ms f e n, append-assoc)
 
 pub countMembers-few : (ms : Members) → countMembers ms ≤ sizesMembers ms
 countMembers-few no-member = omega arith

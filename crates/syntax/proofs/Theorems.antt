@@ -15,8 +15,8 @@ use Rattle.syntax.specs.Grammar.{readText}
 use Rattle.syntax.specs.Spelling.{valueOf}
 use Rattle.syntax.specs.Rows.{size}
 use Rattle.syntax.specs.Answer.{rowsIn, tableOf}
-use Rattle.syntax.specs.Holding.{Holds, Placed}
-use Rattle.syntax.proofs.Holding.{holds-same, table-holds}
+use Rattle.syntax.specs.Holding.{Holds, Nested, Placed}
+use Rattle.syntax.proofs.Holding.{holds-same, table-holds, table-nested}
 use Rattle.syntax.proofs.Items.{Refusal}
 use Rattle.syntax.proofs.Values.{value-within, value-takes}
 use Rattle.syntax.proofs.Induction.{read-ways, read-begins}
@@ -50,10 +50,14 @@ module _ (bytes depth : ℕ) (s : List ℕ) where
         let b = read-begins bytes depth s n e q in
         omega (arith, run-within isSpace s (b .0) (value-takes s depth (b .1 .reads) .1))
 
-  -- a table with room holds the tree afterwards
-  pub read-table : (t : List ℕ) (n : Node) (e : ℕ) → readText bytes depth s ≡ parsed n e → size n ≤ rowsIn (length t)
-      → Holds (tableOf t (readText bytes depth s)) 0 n
-  read-table t n e q h = rw q (table-holds t n e h)
+  module _ (t : List ℕ) (n : Node) (e : ℕ) (q : readText bytes depth s ≡ parsed n e) (h : size n ≤ rowsIn (length t)) where
+    -- a table with room holds the tree afterwards
+    pub read-table : Holds (tableOf t (readText bytes depth s)) 0 n
+    read-table = rw q (table-holds t n e h)
+
+    -- and each row says in which array or object it stands
+    pub read-nested : Nested (tableOf t (readText bytes depth s)) 0 0 n
+    read-nested = rw q (table-nested t n e h)
 
   -- ---- a refusal
 

@@ -27,7 +27,7 @@ readWithin l s = readText (min (l .bytes) 65536) (min (l .depth) 32) s
 abbrev pub answer : ℕ → ℕ → ℕ → ℕ → Answer
 answer code which place other = record { code = code; text = which; place = place; other = other }
 
--- "A table of w words, each of 32 bits, holds w/5 rows, rounded down."
+-- 01: "A table of w words, each of 32 bits, holds w/5 rows, rounded down."; L11: "A table now holds w/6 rows."
 abbrev pub rowsIn : ℕ → ℕ
 rowsIn w = w / rowWords
 

@@ -12,7 +12,7 @@ use Rattle.syntax.specs.Rows.{rowWords, count, countMembers, size, sizes
 abbrev pub word : List ℕ → ℕ → ℕ → ℕ
 word t r i = getD t (rowWords * r + i) 0
 
--- row r of the table t has these words, and the subtree's rows lie in the table
+-- row r of the table t has this entry's words, and the subtree's rows lie in the table
 pub record Row (t : List ℕ) (r k f e children rows : ℕ) : Type 0 where
   pub kind : word t r 0 ≡ k
   pub first : word t r 1 ≡ f
@@ -35,6 +35,21 @@ abbrev mutual
   pub HoldsMembers : List ℕ → ℕ → Members → Type 0
   HoldsMembers t r no-member = Unit
   HoldsMembers t r (member f e n ms) = Row t r 9 f e 0 1 × Holds t (r + 1) n × HoldsMembers t (r + 1 + size n) ms
+
+-- the value at row r stands in that of row p, and all that stands in it says so too (L11)
+abbrev mutual
+  pub Nested : List ℕ → ℕ → ℕ → Node → Type 0
+  Nested t p r (scalar k f e) = word t r 5 ≡ p
+  Nested t p r (array f e ns) = (word t r 5 ≡ p) × NestedAll t r (r + 1) ns
+  Nested t p r (object f e ms) = (word t r 5 ≡ p) × NestedMembers t r (r + 1) ms
+
+  pub NestedAll : List ℕ → ℕ → ℕ → Nodes → Type 0
+  NestedAll t p r none = Unit
+  NestedAll t p r (more n ns) = Nested t p r n × NestedAll t p (r + size n) ns
+
+  pub NestedMembers : List ℕ → ℕ → ℕ → Members → Type 0
+  NestedMembers t p r no-member = Unit
+  NestedMembers t p r (member f e n ms) = (word t r 5 ≡ p) × Nested t p (r + 1) n × NestedMembers t p (r + 1 + size n) ms
 
 -- every place lies within the text; strings and names have both quotes
 abbrev mutual

@@ -11,17 +11,18 @@ use Rattle.tokens.specs.Parse.{Parse, refused, parsed}
 use Rattle.tokens.specs.Space.{isSpace, skip}
 use Rattle.chars.proofs.Facts.{run-within}
 use Rattle.syntax.specs.Tree.{Node}
-use Rattle.syntax.specs.Rows.{size, words}
+use Rattle.syntax.specs.Rows.{size, entries, words}
 use Rattle.syntax.specs.Grammar.{valueAt, alone, wholeAt, readText}
 use Rattle.syntax.specs.Answer.{rowsIn as roomIn, answer, answerOf, tableOf}
-use Rattle.marks.specs.Marks.{markRows}
+use Rattle.marks.specs.Marks.{markEntries}
+use Rattle.marks.specs.Filling.{markWords}
 use Rattle.reader.specs.Scanning.{scanOf, Ready, Marked, Told}
 use Rattle.syntax.specs.declared.answers.Answer.{Answer}
 use Rattle.reader.specs.declared.scanning.Scanned.{Scanned}
 use Rattle.reader.specs.declared.scanning.Scanned.the-variants.{Refused, Value}
 use Rattle.syntax.proofs.Facts.{value-takes}
 use Rattle.reader.proofs.scanning.Outcomes.{scan-refused, scan-value, answer-refused, answer-full, answer-read}
-use Rattle.marks.proofs.Facts.{nothing-unnamed, index-fresh}
+use Rattle.marks.proofs.Facts.{nothing-unnamed, index-fresh, tree-words}
 use Rattle.syntax.proofs.Theorems.{read-code, read-rows}
 
 -- ---- both passes
@@ -83,8 +84,9 @@ pub record ValueRead (d : ℕ) (s ms₂ : List ℕ) (k j : ℕ) : Type 0 where
   pub end : ℕ
   pub reads : valueAt d s (skip s 0) ≡ parsed tree end
   pub sized : size tree ≡ k
-  pub rows : markRows (take k ms₂) ≡ words tree
+  pub rows : markEntries (take k ms₂) ≡ entries tree
   pub few : k ≤ length ms₂
+  pub small : k ≤ 65536
   pub behind : j ≡ skip s end
 
 module _ {d : ℕ} {s hs ms : List ℕ} {r : Scanned} {hs₂ ms₂ : List ℕ} (o : Over d s hs ms r hs₂ ms₂) where
@@ -108,6 +110,7 @@ module _ {d : ℕ} {s hs ms : List ℕ} {r : Scanned} {hs₂ ms₂ : List ℕ} (
         sized = n .2;
         rows = rw q at (m .rows);
         few = omega (arith, value-takes s d (n .1), n .2, o .given .room .rows, o .same);
+        small = omega (arith, value-takes s d (n .1), n .2, o .given .room .short);
         behind = y;
       }
 
@@ -127,9 +130,15 @@ module _ {d : ℕ} {s ms₂ : List ℕ} {k j : ℕ} (v : ValueRead d s ms₂ k j
     pub passed-full : roomIn (length t) < k → Passed (wholeAt d s) (Value j k) t t
     passed-full m = (scanned, sym (ap (tableOf t) whole ∙ answer-full 0 t (v .tree) j (rw (v .sized) m) .1))
 
-    pub passed-read : k ≤ roomIn (length t) → {t₂ : List ℕ} → t₂ ≡ sets t 0 (markRows (take k ms₂)) → Passed (wholeAt d s) (Value j k) t t₂
+    -- its rows are those of its marks
+    laid : markWords ms₂ k ≡ words (v .tree)
+    laid =
+        let z = v .sized in
+        rw (← z) (tree-words ms₂ (v .tree) (rw z (v .few)) (rw z (v .rows)))
+
+    pub passed-read : k ≤ roomIn (length t) → {t₂ : List ℕ} → t₂ ≡ sets t 0 (markWords ms₂ k) → Passed (wholeAt d s) (Value j k) t t₂
     passed-read m w =
-        (scanned, w ∙ ap (sets t 0) (v .rows) ∙ sym (ap (tableOf t) whole ∙ answer-read 0 t (v .tree) j (rw (v .sized) m) .1))
+        (scanned, w ∙ ap (sets t 0) laid ∙ sym (ap (tableOf t) whole ∙ answer-read 0 t (v .tree) j (rw (v .sized) m) .1))
 
 -- ---- the answer and the table, within limits
 

@@ -7,14 +7,14 @@ use lib.ListN.{length, set}
 use lib.Seq.{slice}
 use Rattle.tokens.specs.Parse.{Parse, parsed, then}
 use Rattle.syntax.specs.Tree.{Node, array, Nodes, none, addNode}
-use Rattle.syntax.specs.Rows.{count, size, sizes, wordsAll}
+use Rattle.syntax.specs.Rows.{Entry, count, size, sizes, entriesAll}
 use Rattle.syntax.specs.Grammar.{elementAt, arrayAt, valueAt}
-use Rattle.marks.specs.Marks.{listMark, markRows}
+use Rattle.marks.specs.Marks.{listMark, markEntries}
 use Rattle.reader.specs.Scanning.{ListFits, Told}
 use Rattle.reader.specs.declared.scanning.Following.{Following}
 use Rattle.reader.specs.declared.scanning.Scanned.{Scanned}
 use Rattle.reader.specs.declared.scanning.Scanned.the-variants.{Refused, Value}
-use Rattle.syntax.proofs.Facts.{sizes-add, count-add, count-few, wordsAll-add, element-reads}
+use Rattle.syntax.proofs.Facts.{sizes-add, count-add, count-few, entriesAll-add, element-reads}
 use Rattle.reader.proofs.scanning.Outcomes.{scan-refused}
 use Rattle.marks.proofs.Facts.{within-join, within-wider, within-kept}
 use Rattle.reader.proofs.scanning.Told.{told-parsed}
@@ -28,7 +28,7 @@ arrayOf s d at = record {
   item = elementAt (valueAt d s);
   rows = sizes;
   kids = count;
-  inner = wordsAll;
+  inner = entriesAll;
   node = λ ns e. array at e ns;
   keeps = λ row ms ns. Unit;
   some = omega arith;
@@ -96,8 +96,8 @@ module _ {s : List ℕ} {d at row : ℕ} {hs₀ ms₀ hs ms : List ℕ} {rows ch
         item = ap (λ (x : Parse Node). then x (λ n f. parsed (addNode (h .before) n) f)) (v .1);
         adds = omega (arith, sizes-add (h .before) n, v .2);
         kept =
-            wordsAll-add (h .before) n
-            ∙ ap (λ (ys : List ℕ). wordsAll (h .before) ++ ys) (sym (m .rows) ∙ ap (λ (t : ℕ). markRows (slice (row + rows) t ms)) w);
+            entriesAll-add (h .before) n
+            ∙ ap (λ (ys : List Entry). entriesAll (h .before) ++ ys) (sym (m .rows) ∙ ap (λ (t : ℕ). markEntries (slice (row + rows) t ms)) w);
         filled = rw w at g;
         kids = omega (arith, h .kids, count-add (h .before) n);
         headed = a .headed ∙ h .headed;

@@ -1,6 +1,6 @@
 -- Values that hold no other, in the first pass on plain values: what was read, and the row that is kept of it.
 use mathlib.Core.Path.{_≡_, refl, sym, ap, _∙_}
-use mathlib.Core.List.{List}
+use mathlib.Core.List.{List, [], _∷_}
 use Prim.Native.Nat.{ℕ, _≤_, _<_}
 use native.Mathlib.Omega.{arith}
 use lib.ListN.{length, set}
@@ -11,12 +11,12 @@ use Rattle.tokens.specs.declared.scalars.First.{First}
 use Rattle.tokens.specs.declared.tokens.Token.{Token}
 use Rattle.tokens.specs.declared.tokens.Token.the-variants.{Taken, Broken}
 use Rattle.tokens.proofs.Facts.{scalar-bounded}
-use Rattle.syntax.specs.Rows.{row as rowOf}
+use Rattle.syntax.specs.Rows.{Entry, entry}
 use Rattle.syntax.specs.Grammar.{leafAt}
-use Rattle.marks.specs.Marks.{leafMark, isName, markRow}
+use Rattle.marks.specs.Marks.{leafMark, isName, markEntry}
 use Rattle.reader.specs.Scanning.{Begun, LeafReady, LeafTold}
 use Rattle.reader.specs.declared.scanning.Scanned.the-variants.{Refused, Value}
-use Rattle.marks.proofs.Facts.{leaf-row, leaf-unnamed}
+use Rattle.marks.proofs.Facts.{leaf-entry, leaf-unnamed}
 use Rattle.model.proofs.Basics.{never}
 
 kind-small : (k : Kind) → kindNumber k < 65536
@@ -65,7 +65,7 @@ module _ {s ms : List ℕ} {row i : ℕ} {x : Token} (l : LeafRead s ms row i x)
           after = (
             m,
             refl,
-            ap markRow w ∙ leaf-row k i e (f .0) (f .1) (f .2) ∙ ap (λ (y : ℕ). rowOf y i e 0 1) (taken .2),
+            ap (λ (y : ℕ). markEntry y ∷ []) w ∙ ap (λ (y : Entry). y ∷ []) (leaf-entry k i e (f .0) (f .1) (f .2)) ∙ ap (λ (y : ℕ). entry y i e 0 1 ∷ []) (taken .2),
             ap isName w ∙ leaf-unnamed k i e (f .0) (f .1) (f .2),
           );
         })

@@ -1,6 +1,6 @@
 -- What stands between brackets, in the first pass on plain values: items with commas up to a closing byte. Invariant of both loops: `Inside`.
 use mathlib.Core.Path.{_≡_, refl, sym, ap, _∙_}
-use mathlib.Core.List.{List, [], _++_}
+use mathlib.Core.List.{List, [], _∷_, _++_}
 use mathlib.Core.Bool.{false}
 use Prim.Native.Nat.{ℕ, suc, _+_, _*_, _≤_, _<_}
 use native.Mathlib.Omega.{arith}
@@ -11,9 +11,9 @@ use Rattle.tokens.specs.Parse.{Parse, refused, parsed, then, unexpected}
 use Rattle.tokens.specs.Space.{isSpace, skip}
 use Rattle.chars.proofs.Facts.{run-from, run-within}
 use Rattle.syntax.specs.Tree.{Node, object, none}
-use Rattle.syntax.specs.Rows.{row as rowOf, size, words}
+use Rattle.syntax.specs.Rows.{Entry, entry, size, entries}
 use Rattle.syntax.specs.Grammar.{itemsAt, listAt}
-use Rattle.marks.specs.Marks.{listMark, isName, markRow, markRows}
+use Rattle.marks.specs.Marks.{listMark, isName, markEntry, markEntries}
 use Rattle.marks.specs.Names.{Fresh, Within, Index}
 use Rattle.reader.specs.Scanning.{scanOf, Room, Ready, ListFits, Follows, Told}
 use Rattle.reader.specs.declared.scanning.Following.{Following}
@@ -21,7 +21,7 @@ use Rattle.reader.specs.declared.scanning.Following.the-variants.{Closin
 use Rattle.reader.specs.declared.scanning.Scanned.{Scanned}
 use Rattle.reader.specs.declared.scanning.Scanned.the-variants.{Refused, Value}
 use Rattle.syntax.proofs.Facts.{Reads, item-takes, items-refused, items-next, items-close, items-bad, list-empty, list-items, byte-in}
-use Rattle.marks.proofs.Facts.{list-row, list-unnamed, rows-append, rows-cons, rows-none, same-below, fresh-later, fresh-set, within-empty}
+use Rattle.marks.proofs.Facts.{list-entry, list-unnamed, entries-append, entries-cons, entries-none, same-below, fresh-later, fresh-set, within-empty}
 use Rattle.marks.proofs.Facts.{within-none, within-join, within-set, index-plain}
 use Rattle.reader.proofs.scanning.Slices.{slice-kept, slice-meet, slice-header, kept-below}
 use Rattle.reader.proofs.scanning.Told.{told-refused, told-value, told-bad, unexpected-then}
@@ -35,7 +35,7 @@ pub record Bracket (s : List ℕ) (L : Type 0) : Type 1 where
   pub item : L → ℕ → Parse L
   pub rows : L → ℕ
   pub kids : L → ℕ
-  pub inner : L → List ℕ
+  pub inner : L → List Entry
   pub node : L → ℕ → Node
   pub keeps : ℕ → List ℕ → L → Type 0
   pub some : 0 < closing
@@ -44,7 +44,7 @@ pub record Bracket (s : List ℕ) (L : Type 0) : Type 1 where
   pub reads : Reads s rows item
   pub few : (all : L) → kids all ≤ rows all
   pub sized : (all : L) (e : ℕ) → size (node all e) ≡ suc (rows all)
-  pub spelled : (all : L) (e : ℕ) → words (node all e) ≡ rowOf (7 + object) at e (kids all) (suc (rows all)) ++ inner all
+  pub spelled : (all : L) (e : ℕ) → entries (node all e) ≡ entry (7 + object) at e (kids all) (suc (rows all)) ∷ inner all
 
 -- the opening byte stands at `at`, and x at i, behind the space after it
 pub record Opened (s hs ms : List ℕ) (d row at i x : ℕ) : Type 0 where
@@ -61,7 +61,7 @@ pub record Along {L : Type 0} {s : List ℕ} (b : Bracket s L) (o : Parse Node) 
   pub spent : b .at + 2 * b .rows before + 1 ≤ i
   pub inside : i ≤ length s
   pub below : take (row + 1) ms ≡ take (row + 1) ms₀
-  pub inner : markRows (slice (row + 1) (row + rows) ms) ≡ b .inner before
+  pub inner : markEntries (slice (row + 1) (row + rows) ms) ≡ b .inner before
   pub marked : length ms ≡ length ms₀
 
 -- the rows behind the first stand up to t, and their names are in the index
@@ -77,7 +77,7 @@ pub record Turn {L : Type 0} {s : List ℕ} (b : Bracket s L) (o : Parse Node) (
   pub along : Along b o before d row hs₀ ms₀ ms rows i
   pub item : b .item before i ≡ parsed all e
   pub adds : b .rows all ≡ b .rows before + more
-  pub kept : b .inner all ≡ b .inner before ++ markRows (slice (row + rows) (row + (rows + more)) ms)
+  pub kept : b .inner all ≡ b .inner before ++ markEntries (slice (row + rows) (row + (rows + more)) ms)
   pub filled : Filled s row hs ms (row + (rows + more))
   pub kids : children + 1 ≡ b .kids all
   pub headed : length hs ≡ length hs₀
@@ -143,11 +143,11 @@ module _ {s hs ms : List ℕ} {d row at i x : ℕ} (h : Opened s hs ms d row at 
           fresh = rw y (header-fresh opened-filled (omega arith) (f .4) m v u);
           below = take-set-le row ms row m (omega arith);
           rows =
-              ap (λ (k : ℕ). markRows (slice row (row + k) (set ms row m))) y
-              ∙ ap markRows (slice-header row (row + 1) m ms (omega arith) (omega (arith, f .4)) ∙ rw slice-empty)
-              ∙ rows-cons m []
-              ∙ ap (λ (ys : List ℕ). markRow m ++ ys) rows-none
-              ∙ ap (λ (ys : List ℕ). ys ++ []) (list-row (b .object) at (i + 1) 0 1 (b .kind) (f .0) (f .1) (omega arith) (omega arith) (f .2))
+              ap (λ (k : ℕ). markEntries (slice row (row + k) (set ms row m))) y
+              ∙ ap markEntries (slice-header row (row + 1) m ms (omega arith) (omega (arith, f .4)) ∙ rw slice-empty)
+              ∙ entries-cons m []
+              ∙ ap (λ (ys : List Entry). markEntry m ∷ ys) entries-none
+              ∙ ap (λ (y : Entry). y ∷ []) (list-entry (b .object) at (i + 1) 0 1 (b .kind) (f .0) (f .1) (omega arith) (omega arith) (f .2))
               ∙ sym (b .spelled empty (i + 1) ∙ rw (← same, nobody, ← z, nothing));
           owned = rw y (header-owned opened-filled (omega arith) (f .4) m v u);
         })
@@ -166,7 +166,7 @@ module _ {s hs ms : List ℕ} {d row at i x : ℕ} (h : Opened s hs ms d row at 
           spent = omega (arith, h .place);
           inside = omega (arith, h .place, h .opens, run-within isSpace s (at + 1) (omega (arith, h .opens)));
           below = refl;
-          inner = ap markRows (slice-empty (row + 1) ms) ∙ rows-none ∙ sym nothing;
+          inner = ap markEntries (slice-empty (row + 1) ms) ∙ entries-none ∙ sym nothing;
           marked = refl;
         }
 
@@ -195,7 +195,7 @@ module _ {L : Type 0} {s : List ℕ} {b : Bracket s L} {o : Parse Node} {before 
     spent = h .spent;
     inside = h .inside;
     below = kept-below (row + 1) (row + rows) ms₂ ms (omega (arith, h .counted)) l ∙ h .below;
-    inner = ap markRows (slice-kept (row + 1) (row + rows) ms₂ ms l) ∙ h .inner;
+    inner = ap markEntries (slice-kept (row + 1) (row + rows) ms₂ ms l) ∙ h .inner;
     marked = q ∙ h .marked;
   }
 
@@ -215,12 +215,12 @@ module _ {L : Type 0} {s : List ℕ} {b : Bracket s L} {o : Parse Node} {d row :
       × (rows + more ≡ suc (b .rows (t .all))) × (children + 1 ≤ e)
   turn-takes = omega (arith, item-takes (b .reads) (t .item), t .adds, t .along .counted, t .along .spent, t .kids, b .few (t .all))
 
-  turn-inner : row + (rows + more) ≤ length ms → markRows (slice (row + 1) (row + (rows + more)) ms) ≡ b .inner (t .all)
+  turn-inner : row + (rows + more) ≤ length ms → markEntries (slice (row + 1) (row + (rows + more)) ms) ≡ b .inner (t .all)
   turn-inner l =
       let a = t .along in
-      ap markRows (slice-meet (row + 1) (row + rows) (row + (rows + more)) ms (omega (arith, a .counted)) (omega arith) l)
-      ∙ rows-append (slice (row + 1) (row + rows) ms) (slice (row + rows) (row + (rows + more)) ms)
-      ∙ ap (λ (ys : List ℕ). ys ++ markRows (slice (row + rows) (row + (rows + more)) ms)) (a .inner)
+      ap markEntries (slice-meet (row + 1) (row + rows) (row + (rows + more)) ms (omega (arith, a .counted)) (omega arith) l)
+      ∙ entries-append (slice (row + 1) (row + rows) ms) (slice (row + rows) (row + (rows + more)) ms)
+      ∙ ap (λ (ys : List Entry). ys ++ markEntries (slice (row + rows) (row + (rows + more)) ms)) (a .inner)
       ∙ sym (t .kept)
 
   -- j lies behind the item and the space after it
@@ -253,12 +253,12 @@ module _ {L : Type 0} {s : List ℕ} {b : Bracket s L} {o : Parse Node} {d row :
             fresh = rw w (header-fresh g (omega arith) (f .4) m (along-free a) v);
             below = take-set-le row ms row m (omega arith) ∙ kept-below row (row + 1) ms ms₀ (omega arith) (a .below);
             rows =
-                ap (λ (n : ℕ). markRows (slice row (row + n) (set ms row m))) w
-                ∙ ap markRows (slice-header row (row + (rows + more)) m ms (omega arith) (closing-room .0))
-                ∙ rows-cons m (slice (row + 1) (row + (rows + more)) ms)
-                ∙ ap (λ (ys : List ℕ). markRow m ++ ys) (turn-inner (closing-room .0))
-                ∙ ap (λ (ys : List ℕ). ys ++ b .inner (t .all))
-                (list-row (b .object) (b .at) (j + 1) (children + 1) (rows + more) (b .kind) (f .0) (f .1) (omega arith) (f .3) (f .2))
+                ap (λ (n : ℕ). markEntries (slice row (row + n) (set ms row m))) w
+                ∙ ap markEntries (slice-header row (row + (rows + more)) m ms (omega arith) (closing-room .0))
+                ∙ entries-cons m (slice (row + 1) (row + (rows + more)) ms)
+                ∙ ap (λ (ys : List Entry). markEntry m ∷ ys) (turn-inner (closing-room .0))
+                ∙ ap (λ (y : Entry). y ∷ b .inner (t .all))
+                (list-entry (b .object) (b .at) (j + 1) (children + 1) (rows + more) (b .kind) (f .0) (f .1) (omega arith) (f .3) (f .2))
                 ∙ sym (b .spelled (t .all) (j + 1) ∙ rw (← t .kids, ← u));
             owned = rw w (header-owned g (omega arith) (f .4) m (along-free a) v);
           })

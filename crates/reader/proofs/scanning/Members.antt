@@ -1,6 +1,6 @@
 -- Members in the first pass: a name, a colon and a value; what is told of each way through them.
 use mathlib.Core.Path.{_≡_, refl, sym, ap, _∙_}
-use mathlib.Core.List.{List, _++_}
+use mathlib.Core.List.{List, _∷_, _++_}
 use mathlib.Core.Bool.{Bool, true, false, cond}
 use Prim.Native.Nat.{ℕ, suc, _+_, _≤_, _<_}
 use native.Mathlib.Numerals.{add-one}
@@ -16,17 +16,17 @@ use Rattle.chars.proofs.Facts.{run-from, run-within}
 use Rattle.chars.specs.declared.hashing.Hashed.{Hashed}
 use Rattle.chars.specs.declared.hashing.Hashed.the-variants.{Name, Broken}
 use Rattle.syntax.specs.Tree.{Node, Members, addMember}
-use Rattle.syntax.specs.Rows.{row as rowOf, size, sizesMembers, words, wordsMembers}
+use Rattle.syntax.specs.Rows.{entry, size, sizesMembers, Entry, entries, entriesMembers}
 use Rattle.syntax.specs.Grammar.{nameOf, nameAt, memberAt, valueAt}
-use Rattle.marks.specs.Marks.{nameMark, markRow, markRows}
+use Rattle.marks.specs.Marks.{nameMark, markEntry, markEntries}
 use Rattle.marks.specs.Names.{nameFirst, nameEnd, nameIn, ownHash, Owned, Fresh, Kept, bucketOf, Index, NameReady, hashedOf, NameTold}
 use Rattle.reader.specs.Scanning.{scanOf, Ready, Marked, Told, MemberReady, MemberScan, MemberTold}
 use Rattle.reader.specs.declared.scanning.Scanned.{Scanned}
 use Rattle.reader.specs.declared.scanning.Scanned.the-variants.{Refused, Value}
-use Rattle.syntax.proofs.Facts.{byte-in, sizesMembers-add, wordsMembers-add, name-within, name-takes, member-bare, member-value, value-takes}
+use Rattle.syntax.proofs.Facts.{byte-in, sizesMembers-add, entriesMembers-add, name-within, name-takes, member-bare, member-value, value-takes}
 use Rattle.reader.proofs.scanning.Outcomes.{scan-refused}
 use Rattle.model.proofs.Basics.{never}
-use Rattle.marks.proofs.Facts.{name-numbers, name-named, name-row, rows-cons, fresh-later, fresh-set, kept-kept, kept-add, bucket-in}
+use Rattle.marks.proofs.Facts.{name-numbers, name-named, name-entry, entries-cons, fresh-later, fresh-set, kept-kept, kept-add, bucket-in}
 use Rattle.marks.proofs.Facts.{index-head}
 use Rattle.reader.proofs.scanning.Slices.{kept-write}
 use Rattle.reader.proofs.scanning.Told.{told-parsed}
@@ -240,18 +240,18 @@ module _ {s hs ms hs₂ ms₂ : List ℕ} {d o row i : ℕ} {r : Scanned} (x : V
         )
 
     -- the rows of the name and of its value
-    member-rows : markRows (slice row (row + (rows + 1)) ms₂) ≡ rowOf 9 i (member .end) 0 1 ++ words (read .0)
+    member-rows : markEntries (slice row (row + (rows + 1)) ms₂) ≡ entry 9 i (member .end) 0 1 ∷ entries (read .0)
     member-rows =
         let w = ap length (member .pushed) ∙ length-set ms row mark in
         let v = value-takes s d (read .1) in
         let c : row + (rows + 1) ≤ length ms₂ = omega (arith, named-ready member .rowed, named-ready member .room .rows, v, read .2, x .same) in
         let e : row + (rows + 1) ≡ row + 1 + size (read .0) = omega (arith, read .2) in
-        ap markRows (slice-cons row (row + (rows + 1)) ms₂ 0 (omega arith) c)
-        ∙ rows-cons (getD ms₂ row 0) (slice (suc row) (row + (rows + 1)) ms₂)
-        ∙ ap (λ (x : ℕ). markRow x ++ markRows (slice (suc row) (row + (rows + 1)) ms₂)) (kept-mark .1)
-        ∙ ap (λ (ys : List ℕ). ys ++ markRows (slice (suc row) (row + (rows + 1)) ms₂))
-        (name-row i (member .end) (member .link) (member .hash) (member .name .takes) (room .1) (member .small) (room .2))
-        ∙ ap (λ (ys : List ℕ). rowOf 9 i (member .end) 0 1 ++ ys) (ap (λ (t : ℕ). markRows (slice (suc row) t ms₂)) e ∙ rw (← add-one row) (read .3 .rows))
+        ap markEntries (slice-cons row (row + (rows + 1)) ms₂ 0 (omega arith) c)
+        ∙ entries-cons (getD ms₂ row 0) (slice (suc row) (row + (rows + 1)) ms₂)
+        ∙ ap (λ (x : ℕ). markEntry x ∷ markEntries (slice (suc row) (row + (rows + 1)) ms₂)) (kept-mark .1)
+        ∙ ap (λ (y : Entry). y ∷ markEntries (slice (suc row) (row + (rows + 1)) ms₂))
+        (name-entry i (member .end) (member .link) (member .hash) (member .name .takes) (room .1) (member .small) (room .2))
+        ∙ ap (λ (ys : List Entry). entry 9 i (member .end) 0 1 ∷ ys) (ap (λ (t : ℕ). markEntries (slice (suc row) t ms₂)) e ∙ rw (← add-one row) (read .3 .rows))
 
     pub told-member : MemberTold s d (Value f (rows + 1)) o row i ms hs₂ ms₂
     told-member =
@@ -268,7 +268,7 @@ module _ {s hs ms hs₂ ms₂ : List ℕ} {d o row i : ℕ} {r : Scanned} (x : V
               index = read .3 .index;
               fresh = rw w at (read .3 .fresh);
               below = kept-mark .0;
-              rows = wordsMembers-add before i e n ∙ ap (λ (ys : List ℕ). wordsMembers before ++ ys) (sym member-rows);
+              rows = entriesMembers-add before i e n ∙ ap (λ (ys : List Entry). entriesMembers before ++ ys) (sym member-rows);
               kept =
                   kept-add s o ms₂ (o + 1) before i e n row z (kept-kept s o ms ms₂ (o + 1) before row (kept-mark .0) (omega arith) h)
                   (own .0) (own .1) (own .2) (read .3 .owned);

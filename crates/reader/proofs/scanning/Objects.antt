@@ -7,9 +7,9 @@ use lib.ListN.{length, set}
 use lib.Seq.{slice}
 use Rattle.tokens.specs.Parse.{Parse, refused, parsed}
 use Rattle.syntax.specs.Tree.{object, Members, no-member}
-use Rattle.syntax.specs.Rows.{countMembers, sizesMembers, wordsMembers}
+use Rattle.syntax.specs.Rows.{countMembers, sizesMembers, entriesMembers}
 use Rattle.syntax.specs.Grammar.{memberAt, objectAt, valueAt}
-use Rattle.marks.specs.Marks.{listMark, markRows}
+use Rattle.marks.specs.Marks.{listMark, markEntries}
 use Rattle.marks.specs.Names.{Kept}
 use Rattle.reader.specs.Scanning.{ListFits, Told, MemberReady, MemberMarked, MemberScan, MemberTold}
 use Rattle.reader.specs.declared.scanning.Following.{Following}
@@ -29,7 +29,7 @@ objectOf s d at = record {
   item = memberAt (valueAt d s) s;
   rows = sizesMembers;
   kids = countMembers;
-  inner = wordsMembers;
+  inner = entriesMembers;
   node = λ ms e. object at e ms;
   keeps = λ row ms all. Kept s row ms (row + 1) all;
   some = omega arith;
@@ -121,7 +121,7 @@ module _ {s : List ℕ} {d at row : ℕ} {hs₀ ms₀ hs ms : List ℕ} {rows ch
         along = stays (h .along) (m .below) (a .marked);
         item = v .1;
         adds = m .adds;
-        kept = m .rows ∙ ap (λ (t : ℕ). wordsMembers given ++ markRows (slice (row + rows) t ms)) w;
+        kept = m .rows ∙ ap (λ (t : ℕ). entriesMembers given ++ markEntries (slice (row + rows) t ms)) w;
         filled = record {
           index = m .index;
           fresh = rw w at (m .fresh);

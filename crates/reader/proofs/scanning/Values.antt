@@ -19,9 +19,9 @@ use Rattle.tokens.specs.declared.tokens.Token.the-variants.{Taken}
 use Rattle.tokens.proofs.Facts.{first-array, first-object, scalar-bounded, integer-read}
 use Rattle.tokens.proofs.scalars.First.{the-type}
 use Rattle.syntax.specs.Tree.{Node}
-use Rattle.syntax.specs.Rows.{size}
+use Rattle.syntax.specs.Rows.{Entry, size}
 use Rattle.syntax.specs.Grammar.{arrayAt, objectAt, leafAt, valueAt}
-use Rattle.marks.specs.Marks.{leafMark, markRow, markRows}
+use Rattle.marks.specs.Marks.{leafMark, markEntry, markEntries}
 use Rattle.reader.specs.Scanning.{Begun, LeafReady, Ready, LeafAfter, LeafTold, Marked, After, Told}
 use Rattle.reader.specs.declared.scanning.Scanned.{Scanned}
 use Rattle.reader.specs.declared.scanning.Scanned.the-variants.{Refused, Value}
@@ -29,7 +29,7 @@ use Rattle.syntax.proofs.Facts.{byte-in, value-deep-array, value-array, value-d
 use Rattle.syntax.proofs.Facts.{leaf-parsed}
 use Rattle.reader.proofs.scanning.Leaves.{LeafRead, leaf-fits, leaf-noted}
 use Rattle.model.proofs.Basics.{never}
-use Rattle.marks.proofs.Facts.{rows-cons, rows-none, fresh-later, within-empty}
+use Rattle.marks.proofs.Facts.{entries-cons, entries-none, fresh-later, within-empty}
 use Rattle.reader.proofs.scanning.Slices.{slice-header}
 use Rattle.reader.proofs.scanning.Told.{told-refused}
 use Rattle.reader.proofs.scanning.Lists.{Filled, header-index, header-fresh, header-owned}
@@ -84,10 +84,9 @@ module _ {s hs ms : List ℕ} {d row i : ℕ} (ms₂ : List ℕ) (p : Ready s hs
         below = ap (take row) (a .1) ∙ take-set-le row ms row x (omega arith);
         rows =
             rw (z, a .1)
-            (ap markRows (slice-header row (row + 1) x ms (omega arith) (omega arith) ∙ rw slice-empty)
-            ∙ rows-cons x []
-            ∙ ap (λ (ys : List ℕ). markRow x ++ ys) rows-none
-            ∙ append-nil (markRow x)
+            (ap markEntries (slice-header row (row + 1) x ms (omega arith) (omega arith) ∙ rw slice-empty)
+            ∙ entries-cons x []
+            ∙ ap (λ (ys : List Entry). markEntry x ∷ ys) entries-none
             ∙ a .2);
         owned = rw (z, a .1) (header-owned g (omega arith) w x v (a .3));
       }

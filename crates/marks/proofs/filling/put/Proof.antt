@@ -1,4 +1,4 @@
--- `put` meets its contract: five stores one behind the other are the row.
+-- `put` meets its contract: six stores one behind the other are the row.
 use native.Mathlib.Omega.{arith}
 use native.Mathlib.Numerals.{towards-suc}
 use lib.ListN.{length-set}
@@ -27,5 +27,9 @@ put-spec = tie.close (tie.spec
     (λ c. search needs)  -- add-table-4
     (λ c. search needs)  -- mul-table-5
     (λ c. simp length-set (omega arith))  -- slice-write-table-5
+    (λ c. search needs)  -- cast-table-5
+    (λ c. search needs)  -- add-table-5
+    (λ c. search needs)  -- mul-table-6
+    (λ c. simp length-set (omega arith))  -- slice-write-table-6
     (λ c. search needs)  -- same-length
     (λ c. simp towards-suc))  -- returns

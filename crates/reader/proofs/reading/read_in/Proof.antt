@@ -43,7 +43,7 @@ read-in-spec = tie.close (tie.spec
     (λ c. search needs)  -- same-length
     (λ c. search needs)  -- same-length-2
     (λ c. passed-behind (read (c .before)) _ (c .if1 .taken))  -- returns
-    (λ c κs. (read (c .before .before .before .before) .few, omega arith))  -- fill-requires
+    (λ c κs. let v = read (c .before .before .before .before) in (v .few, omega arith, v .small))  -- fill-requires
     (λ c. search needs)  -- same-length-3
     (λ c. search needs)  -- same-length-4
     (λ c. passed-refused (over (c .before .before .before)) _ (c .before .code .given .1))  -- returns-2
