@@ -29,6 +29,7 @@ use Rattle.schema.specs.Judging.{mismatch, nothing, mismatchAt}
 use Rattle.definitions.specs.Accepting.{readSchema, accept}
 use Rattle.schema.specs.Dates.{leastOf, greatestOf, earliest, latest, datesOf}
 use Rattle.schema.specs.Checking.{checkAnswer, checkTable, checkMoments}
+use Rattle.schema.specs.Paths.{checkPath}
 
 -- ---- how the examples are written
 
@@ -297,25 +298,25 @@ order = (refl, refl, refl, refl, refl, refl, refl)
 
 -- room in the schema's table before 10 to 12, in the document's after the schema was taken wholly, and before the misfits
 room : (checkIn 0 0 (json "[") (json "[") ≡ answer 2 2 1 0)
-    × (checkIn 0 4 (json "[") (json "1") ≡ answer 8 2 0 1)
-    × (checkIn 0 14 (json "1") (json "{'Array':1}") ≡ answer 8 2 0 3)
-    × (checkIn 0 15 (json "1") (json "{'Array':1}") ≡ answer 10 2 9 0)
-    × (checkIn 4 5 (json "[") (json "'String'") ≡ answer 2 1 1 0)
-    × (checkIn 9 5 (json "[1]") (json "'String'") ≡ answer 8 1 0 2)
-    × (checkIn 10 5 (json "[1]") (json "'String'") ≡ answer 20 1 0 0)
-    × (checkIn 5 9 (json "1") (json "'Integer'") ≡ answer 0 0 0 0)
+    × (checkIn 0 5 (json "[") (json "1") ≡ answer 8 2 0 1)
+    × (checkIn 0 17 (json "1") (json "{'Array':1}") ≡ answer 8 2 0 3)
+    × (checkIn 0 18 (json "1") (json "{'Array':1}") ≡ answer 10 2 9 0)
+    × (checkIn 5 6 (json "[") (json "'String'") ≡ answer 2 1 1 0)
+    × (checkIn 11 6 (json "[1]") (json "'String'") ≡ answer 8 1 0 2)
+    × (checkIn 12 6 (json "[1]") (json "'String'") ≡ answer 20 1 0 0)
+    × (checkIn 6 11 (json "1") (json "'Integer'") ≡ answer 0 0 0 0)
 unfolding checkIn
 room = (refl, refl, refl, refl, refl, refl, refl, refl)
 
 -- ---- the document's table
 
 -- it holds the rows after 0 and after 20 to 22; it is as found where the document is refused or has no room, and where it is not reached
-tables : (checkTable (replicate 6 9) 5 (json "1") (json "'Integer'") ≡ 4 ∷ 0 ∷ 1 ∷ 0 ∷ 1 ∷ 9 ∷ [])
-    × (checkTable (replicate 5 9) 5 (json "1") (json "'String'") ≡ 4 ∷ 0 ∷ 1 ∷ 0 ∷ 1 ∷ [])
-    × (checkTable (replicate 5 9) 5 (json "[") (json "'JSON'") ≡ replicate 5 9)
-    × (checkTable (replicate 5 9) 5 (json "[1]") (json "'JSON'") ≡ replicate 5 9)
-    × (checkTable (replicate 5 9) 5 (json "1") (json "'Json'") ≡ replicate 5 9)
-    × (checkTable (replicate 5 9) 4 (json "1") (json "'JSON'") ≡ replicate 5 9)
+tables : (checkTable (replicate 7 9) 6 (json "1") (json "'Integer'") ≡ 4 ∷ 0 ∷ 1 ∷ 0 ∷ 1 ∷ 0 ∷ 9 ∷ [])
+    × (checkTable (replicate 6 9) 6 (json "1") (json "'String'") ≡ 4 ∷ 0 ∷ 1 ∷ 0 ∷ 1 ∷ 0 ∷ [])
+    × (checkTable (replicate 6 9) 6 (json "[") (json "'JSON'") ≡ replicate 6 9)
+    × (checkTable (replicate 6 9) 6 (json "[1]") (json "'JSON'") ≡ replicate 6 9)
+    × (checkTable (replicate 6 9) 6 (json "1") (json "'Json'") ≡ replicate 6 9)
+    × (checkTable (replicate 6 9) 5 (json "1") (json "'JSON'") ≡ replicate 6 9)
 unfolding checkIn checkTable tableOf
 tables = (refl, refl, refl, refl, refl, refl)
 
@@ -345,3 +346,22 @@ no-dates :
     × (datesIn (json "['2000-01-01T00:00:00Z']") (json "{'Array':'Date'}") ≡ none-dated)
 unfolding datesIn none-dated
 no-dates = (refl, refl, refl)
+
+-- ---- the path (02, L11)
+
+pathIn : List ℕ → List ℕ → List ℕ
+unfolding checkIn checkPath
+pathIn document schema = checkPath 16380 16380 document schema
+
+-- from the value up to the top: of 20 and 22 the value, of 21 the object; none on 0 and where a text is refused
+paths-up : (pathIn (json "1") (json "'String'") ≡ 0 ∷ [])
+    × (pathIn (json "[1,[2,'x']]") (json "{'Array':{'Array':'Integer'}}") ≡ 1 ∷ 0 ∷ [])
+    × (pathIn (json "[[1],[2,'x']]") (json "{'Array':{'Array':'Integer'}}") ≡ 5 ∷ 3 ∷ 0 ∷ [])
+    × (pathIn (json "{'a':[1,true]}") (json "{'Map':{'Array':'Integer'}}") ≡ 4 ∷ 2 ∷ 0 ∷ [])
+    × (pathIn (json "{'b':0,'a':[{}]}") (json "{'Object':{'required':{'a':{'Array':{'Object':{'required':{'c':'JSON'}}}}}}}") ≡ 5 ∷ 4 ∷ 0 ∷ [])
+    × (pathIn (json "{'a':'2026-04-31T07:00:00Z'}") (json "{'Map':'DateTime'}") ≡ 2 ∷ 0 ∷ [])
+    × (pathIn (json "1") (json "'Integer'") ≡ [])
+    × (pathIn (json "[1") (json "'Integer'") ≡ [])
+    × (pathIn (json "1") (json "'integer'") ≡ [])
+unfolding pathIn
+paths-up = (refl, refl, refl, refl, refl, refl, refl, refl, refl)

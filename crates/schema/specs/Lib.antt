@@ -2,4 +2,6 @@
 pub mod Judging
 pub mod Dates
 pub mod Checking
+pub mod Paths
 pub mod Walks
+pub mod Climbing

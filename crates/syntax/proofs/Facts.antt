@@ -16,3 +16,5 @@ pub use Rattle.syntax.proofs.Sizes.{entriesAll-add, entriesMembers-add}
 pub use Rattle.syntax.proofs.rows.Each.{Each, each, each-left, each-right, each-join, each-at}
 pub use Rattle.syntax.proofs.rows.Laws.{entries-length, parents-length, noEntry, laid-length, laid-word, stored}
 pub use Rattle.syntax.proofs.Holding.{holds-same, kind-same, kind-small}
+-- how deep a tree is
+pub use Rattle.syntax.proofs.Depth.{Shallow, ShallowAll, ShallowMembers, read-shallow}

@@ -1,5 +1,6 @@
 pub mod Examples
 pub mod Facts
+pub mod Depth
 pub mod Holding
 pub mod Induction
 pub mod Items

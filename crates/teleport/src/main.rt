@@ -6,6 +6,7 @@ use console::answer;
 use console::asks;
 use console::load;
 use console::no_file;
+use schema::PATH_WORDS;
 
 // One byte over the limit of a document (65,536), so that a longer file gives the service a text
 // over its limit, be it a document or a schema.
@@ -40,13 +41,16 @@ fn check() {
     let mut table1 = [0u32; TABLE];
     let mut table2 = [0u32; TABLE];
     let mut dates = [0i64; 3];
-    answer(schema::check(
+    let mut path = [0u32; PATH_WORDS];
+    let r = schema::check(
         &document[..n],
         &schema[..m],
         &mut table1,
         &mut table2,
         &mut dates,
-    ));
+        &mut path,
+    );
+    answer(r.answer);
 }
 
 // `compare FILE FILE`: a new schema and an old one.

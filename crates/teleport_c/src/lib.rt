@@ -1,11 +1,15 @@
 // The library for callers in other languages: a slice is a pointer and a length.
+use schema::PATH_WORDS;
 ghost use mathlib.Core.Path.{_≡_};
 ghost use mathlib.Core.Logic.{_↔_};
+ghost use mathlib.Core.List.{[], _∷_};
+ghost use Prim.Native.Nat.{_≤_};
 ghost use lib.ListN.{length};
 ghost use Rattle.syntax.specs.Answer.{documentLimits, readWithin, answerOf, tableOf};
 ghost use Rattle.definitions.specs.Accepting.{readSchema};
 ghost use Rattle.schema.specs.Dates.{datesOf, Spans};
 ghost use Rattle.schema.specs.Checking.{checkAnswer, checkTable, Meeting, checkMoments};
+ghost use Rattle.schema.specs.Paths.{checkPath, listAfter, pathWords, shortAnswer, byList};
 ghost use Rattle.comparison.specs.Comparing.{Compares, compareTable};
 ghost use Rattle.writer.specs.Compact.{compactAnswer, compactBuffer};
 ghost use Rattle.counterexample.specs.Counterexample.{Promises, tableUnlessShort};
@@ -42,7 +46,9 @@ pub extern "C" fn teleport_check(
     ensures meets { λ _. ⌜ (code (now (answer .exit)) ≡ 0) ↔ Meeting (length (now (table1 .entry))) (length (now (table2 .entry))) (now (document .entry)) (now (schema .entry)) ⌝ }
 {
     let mut dates = [0i64; 3];
-    *answer = words(schema::check(document, schema, table1, table2, &mut dates));
+    let mut path = [0u32; PATH_WORDS];
+    let r = schema::check(document, schema, table1, table2, &mut dates, &mut path);
+    *answer = words(r.answer);
 }
 
 // Check, and the dates of the document (02, L3): how many, the earliest and the latest.
@@ -62,7 +68,33 @@ pub extern "C" fn teleport_check_dates(
     ensures dated { λ _. ⌜ now (dates .exit) ≡ datesOf (checkMoments (length (now (table1 .entry))) (length (now (table2 .entry))) (now (document .entry)) (now (schema .entry))) ⌝ }
     ensures spans { λ _. ⌜ Spans (checkMoments (length (now (table1 .entry))) (length (now (table2 .entry))) (now (document .entry)) (now (schema .entry))) (now (dates .exit)) ⌝ }
 {
-    *answer = words(schema::check(document, schema, table1, table2, dates));
+    let mut path = [0u32; PATH_WORDS];
+    let r = schema::check(document, schema, table1, table2, dates, &mut path);
+    *answer = words(r.answer);
+}
+
+// Check, and the path to its mismatch (02, L11): the rows from the value at the place up to 0, and how many.
+#[no_mangle]
+pub extern "C" fn teleport_check_path(
+    document: &[u8],
+    schema: &[u8],
+    table1: &mut [u32],
+    table2: &mut [u32],
+    path: &mut [u32],
+    answer: &mut [u32; 4],
+    steps: &mut [u32; 1],
+)
+    ensures answers { λ _. ⌜ now (answer .exit) ≡ answerWords (byList (length (now (path .entry))) shortAnswer (checkAnswer (length (now (table1 .entry))) (length (now (table2 .entry))) (now (document .entry)) (now (schema .entry)))) ⌝ }
+    ensures rows1 { λ _. ⌜ now (table1 .exit) ≡ byList (length (now (path .entry))) (now (table1 .entry)) (checkTable (now (table1 .entry)) (length (now (table2 .entry))) (now (document .entry)) (now (schema .entry))) ⌝ }
+    ensures rows2 { λ _. ⌜ now (table2 .exit) ≡ byList (length (now (path .entry))) (now (table2 .entry)) (tableOf (now (table2 .entry)) (readSchema (now (schema .entry)))) ⌝ }
+    ensures meets { λ _. ⌜ (pathWords ≤ length (now (path .entry)) → (code (now (answer .exit)) ≡ 0) ↔ Meeting (length (now (table1 .entry))) (length (now (table2 .entry))) (now (document .entry)) (now (schema .entry))) ⌝ }
+    ensures paths { λ _. ⌜ now (path .exit) ≡ listAfter (byList (length (now (path .entry))) [] (checkPath (length (now (table1 .entry))) (length (now (table2 .entry))) (now (document .entry)) (now (schema .entry)))) (now (path .entry)) ⌝ }
+    ensures stepped { λ _. ⌜ now (steps .exit) ≡ length (byList (length (now (path .entry))) [] (checkPath (length (now (table1 .entry))) (length (now (table2 .entry))) (now (document .entry)) (now (schema .entry)))) ∷ [] ⌝ }
+{
+    let mut dates = [0i64; 3];
+    let r = schema::check(document, schema, table1, table2, &mut dates, path);
+    *answer = words(r.answer);
+    *steps = [r.steps];
 }
 
 // Compare: a new schema and an old one, with a table for each.

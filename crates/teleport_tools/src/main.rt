@@ -8,6 +8,7 @@ use console::load;
 use console::no_file;
 use console::save;
 use console::three;
+use schema::PATH_WORDS;
 
 // The limit of a document.
 const LIMIT: usize = 65536;
@@ -15,11 +16,11 @@ const LIMIT: usize = 65536;
 // One byte over the limit, so that a longer file gives the service a text over it.
 const TEXT: usize = 65537;
 
-// Room for every document: rows number at most the bytes, and have five words each.
-const TABLE: usize = 327680;
+// Room for every document, of 65,536 bytes: two bytes have at most one row, but for the 32 brackets that may be open.
+const TABLE: usize = 196710;
 
-// Room for every schema, of 16,384 bytes: two bytes have at most one row.
-const SCHEMA_TABLE: usize = 40960;
+// Room for every schema, of 16,384 bytes and 24 brackets.
+const SCHEMA_TABLE: usize = 49224;
 
 // `compact FILE OUT`. What is written is never longer than the text, so that the buffer has room.
 fn compact() {
@@ -84,7 +85,16 @@ fn exhibit(new: &[u8], old: &[u8], table1: &mut [u32], table2: &mut [u32]) {
         }
         answer(a);
         let mut dates = [0i64; 3];
-        answer(schema::check(&buffer[..length], old, table1, table2, &mut dates));
+        let mut path = [0u32; PATH_WORDS];
+        let r = schema::check(
+            &buffer[..length],
+            old,
+            table1,
+            table2,
+            &mut dates,
+            &mut path,
+        );
+        answer(r.answer);
         return;
     }
     answer(a);
@@ -93,9 +103,10 @@ fn exhibit(new: &[u8], old: &[u8], table1: &mut [u32], table2: &mut [u32]) {
 // `dates DOCUMENT SCHEMA`. On 0 the second line is how many dates there are, the earliest and the latest.
 fn count_dates(document: &[u8], schema: &[u8], table1: &mut [u32], table2: &mut [u32]) {
     let mut dates = [0i64; 3];
-    let a = schema::check(document, schema, table1, table2, &mut dates);
-    answer(a);
-    if a.code == 0 {
+    let mut path = [0u32; PATH_WORDS];
+    let r = schema::check(document, schema, table1, table2, &mut dates, &mut path);
+    answer(r.answer);
+    if r.answer.code == 0 {
         three(dates);
     }
 }

@@ -4,6 +4,7 @@ use crate::fields::decode;
 use crate::fields::find;
 use crate::fields::number;
 use crate::lines;
+use schema::PATH_WORDS;
 
 // The most bytes of a text: some more than the 65,536 of a document (01, "Numbers").
 const TEXT: usize = 65600;
@@ -12,7 +13,7 @@ const TEXT: usize = 65600;
 const TABLE: usize = 16380;
 
 // The most words of a table that is written.
-const WORDS: usize = 64;
+const WORDS: usize = 80;
 
 pub fn run(line: &[u8]) -> bool {
     let tab = find(line, 0, b'\t');
@@ -93,13 +94,16 @@ fn check(fields: &[u8]) -> bool {
     let mut table1 = [0u32; TABLE];
     let mut table2 = [0u32; TABLE];
     let mut dates = [0i64; 3];
-    lines::answer(schema::check(
+    let mut path = [0u32; PATH_WORDS];
+    let r = schema::check(
         &document[..n],
         &schema[..m],
         &mut table1,
         &mut table2,
         &mut dates,
-    ));
+        &mut path,
+    );
+    lines::answer(r.answer);
     true
 }
 

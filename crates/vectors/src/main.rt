@@ -4,7 +4,7 @@
 // A line is a command and its fields, with one tab between:
 //
 //     read TEXT      Read, with a table of 16,380 words
-//     rows N TEXT    Read, with a table of N words, at most 64, each 7 before; its words are
+//     rows N TEXT    Read, with a table of N words, at most 80, each 7 before; its words are
 //                    written behind the answer
 //     check D S      Check, of a document and a schema, with tables of 16,380 words
 //     compare N O    Compare, of a new schema and an old one, with tables of 16,380 words

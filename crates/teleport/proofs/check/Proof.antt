@@ -24,6 +24,7 @@ check-spec = tie.close (tie.spec
     (λ c. search loaded-length)  -- slice-aggregate-check-2
     (λ c. search needs)  -- slice-aggregate-check-3
     (λ c. search needs)  -- slice-aggregate-check-4
+    (λ c. search needs)  -- slice-aggregate-check-5
     (λ c κs. search needs)  -- check-requires
     (λ c κs. search needs)  -- answer-requires
     (λ c. search needs))  -- returns-3

@@ -40,6 +40,7 @@ exhibit-spec = tie.close (tie.spec
     (λ c κs. search needs)  -- answer
     (λ c. omega (arith, most (answered c), whole (answered c)))  -- buffer[..length]
     (λ c. count-length _ (most (answered (c .before))) _ (whole (answered (c .before))))
+    (λ c. search needs)
     (λ c κs. search needs)  -- check
     (λ c κs. search needs)  -- answer
     (λ c. search needs)
