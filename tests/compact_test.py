@@ -57,7 +57,7 @@ class Tester:
         self.function, self.chance, self.written, self.by_json = function, random.Random(seed), 0, 0
 
     def agrees(self, text, words, room):
-        return harness.compare(self.function, compact, [text], [words], self.chance, [room])
+        return harness.compare(self.function, compact, [text], [words], self.chance, [harness.Bytes(room, self.chance)])
 
     # Each text.
 
@@ -68,9 +68,9 @@ class Tester:
             return self.agrees(text, read_test.table_lengths(text, self.chance)[0], self.chance.choice([0, 1, len(text), 99]))
         exact, needed = model.ROW_WORDS * rows, len(spelling(text))
         more = self.chance.randint(1, 30)
-        lent = [(exact + self.chance.choice([0, 0, 1, 4, more]), needed + self.chance.choice([0, 1, more])),
+        lent = [(exact + self.chance.choice([0, 0, 1, model.ROW_WORDS - 1, more]), needed + self.chance.choice([0, 1, more])),
                 (exact, self.chance.choice([needed - 1, needed - 1, 0, self.chance.randrange(needed)])),
-                (exact - self.chance.randint(1, 5), self.chance.choice([0, needed - 1, needed]))]
+                (exact - self.chance.randint(1, model.ROW_WORDS), self.chance.choice([0, needed - 1, needed]))]
         return all(self.agrees(text, *lengths) for lengths in lent) and self.hold_written(text, exact)
 
     def hold_written(self, text, words):
@@ -141,7 +141,7 @@ def run_library(function, count, seed):
 def model_results():
     """Pairs of a text and whether the model writes it as 02 says."""
     for text, written in edge_cases_compact.CASES:
-        table, buffer = [0] * (5 * len(text)), [7] * (len(text) + 3)
+        table, buffer = [0] * (model.ROW_WORDS * len(text)), [7] * (len(text) + 3)
         answer = compact(text, table, buffer)
         right = answer == (model.READ, 0, 0, len(written)) and bytes(buffer) == written + b"\7" * (len(buffer) - len(written))
         yield text, right and spelling(written) == written
@@ -156,9 +156,9 @@ def main():
     if given.model:
         return harness.finish(*harness.count_all((text[:200].hex(), right) for text, right in model_results()))
     if given.self:
-        function = harness.model_function(compact, 1, 1)
+        function = harness.model_function(compact, 1, [harness.Bytes])
     else:
-        function = harness.load(given.library, "teleport_compact", 1, 1)
+        function = harness.load(given.library, "teleport_compact", 1, [harness.Bytes])
     return harness.finish(*run_library(function, given.count, given.seed))
 
 

@@ -225,10 +225,10 @@ def main():
     if given.model:
         return harness.finish(*harness.count_all(model_results()))
     if given.self:
-        functions = [harness.model_function(*service) for service in [(counterexample, 2, 1), (compare, 2), (check, 2)]]
+        functions = [harness.model_function(*service) for service in [(counterexample, 2, [harness.Bytes]), (compare, 2), (check, 2)]]
     else:
         functions = [harness.load(given.library, *service)
-                     for service in [("teleport_counterexample", 2, 1), ("teleport_compare", 2), ("teleport_check", 2)]]
+                     for service in [("teleport_counterexample", 2, [harness.Bytes]), ("teleport_compare", 2), ("teleport_check", 2)]]
     return harness.finish(*run_library(functions, given.count, given.seed))
 
 

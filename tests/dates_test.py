@@ -35,6 +35,7 @@ DAYS = 366 + date.max.toordinal()   # of those years; Python's date begins with 
 
 CODES = {*range(MEETS, model.NO_ROOM + 1), *range(NO_DEFINITION, NAME_SHARED + 1), *range(WRONG_KIND, NO_DATE + 1)}
 LEAST_DATED = 1000                  # pairs with two dates or more, of which too few would show nothing
+BESIDE = (harness.Numbers, NUMBERS) # stands beside the answer
 
 # Schemas of one date and of a list, and room for the longest list.
 ONE, LIST = b'"DateTime"', b'{"Array":"DateTime"}'
@@ -115,7 +116,8 @@ class Tester:
 
     def call(self, texts, lengths):
         """Every word and number must be the model's, and every word that of Check."""
-        return (harness.compare(self.dates, self.model, texts, lengths, self.chance, numbers=NUMBERS)
+        return (harness.compare(self.dates, self.model, texts, lengths, self.chance,
+                                beside=harness.Numbers(NUMBERS, self.chance))
                 and self.as_check(texts, lengths))
 
     def as_check(self, texts, lengths):
@@ -249,9 +251,9 @@ def main():
     if given.model:
         return harness.finish(*harness.count_all(model_results(given.seed)))
     if given.self:
-        functions = [harness.model_function(check_dates, 2, numbers=NUMBERS), harness.model_function(check, 2)]
+        functions = [harness.model_function(check_dates, 2, beside=BESIDE), harness.model_function(check, 2)]
     else:
-        functions = [harness.load(given.library, "teleport_check_dates", 2, numbers=NUMBERS),
+        functions = [harness.load(given.library, "teleport_check_dates", 2, beside=BESIDE),
                      harness.load(given.library, "teleport_check", 2)]
     return harness.finish(*run_library(functions, given.count, given.seed))
 

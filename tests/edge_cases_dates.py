@@ -155,7 +155,7 @@ CASES = [(document.encode(), schema.encode(), code, numbers) for document, schem
 CASES.append((b"[" + at(5).encode() + b',"\xff"]', ARRAY.encode(), 4, NONE))
 
 TABLES = [
-    (dates(5, 6).encode(), ARRAY.encode(), 14, 15, 8), (dates(5, 6).encode(), ARRAY.encode(), 15, 14, 8),
-    (dates(5, 6).encode(), ARRAY.encode(), 0, 0, 8), (at(5).encode(), b'"DateTime"', 4, 5, 8),
-    (at(5).encode(), b'"DateTime"', 5, 4, 8), (at(5).encode(), b'"Date"', 0, 4, 8), (at(5).encode(), b'"Date"', 0, 5, 11),
+    (dates(5, 6).encode(), ARRAY.encode(), 17, 18, 8), (dates(5, 6).encode(), ARRAY.encode(), 18, 17, 8),
+    (dates(5, 6).encode(), ARRAY.encode(), 0, 0, 8), (at(5).encode(), b'"DateTime"', 5, 6, 8),
+    (at(5).encode(), b'"DateTime"', 6, 5, 8), (at(5).encode(), b'"Date"', 0, 5, 8), (at(5).encode(), b'"Date"', 0, 6, 11),
 ]

@@ -1,10 +1,10 @@
 """What the tests share: functions under test, buffers with guards, counting.
 
-A service has one text and one table, or two of each, perhaps a buffer to write to,
-and perhaps numbers beside the answer. Its function takes the address and length of
-each text, then of each table, then of the buffer, then the address of the answer and
-that of the numbers. In the model it is a function of the texts, the tables, the buffer
-and the numbers.
+A service has one text and one table, or two of each, perhaps a buffer or a list to
+write to, and perhaps numbers or words beside the answer. Its function takes the address
+and length of each text, then of each table, then of the buffer or list, then the address
+of the answer and that of what stands beside it. In the model it is a function of the
+texts, the tables, the buffer or list, and what stands beside the answer.
 """
 
 import argparse
@@ -20,7 +20,7 @@ DEFAULT_SEED = 1
 GUARD = 8       # words, or bytes, before and behind each buffer
 ANSWER = 4      # words of an answer
 
-# What a table and an answer have, a text and a buffer, and what stands beside an answer.
+# What tables, lists and answers have; texts and buffers; dates.
 WORDS, BYTES, NUMBERS = "I", "B", "q"
 
 # Around a text stand bytes that a reader running on would take for more of it.
@@ -29,37 +29,39 @@ TEXT_GUARDS = b'"]}0 ,:a'
 
 # The function under test.
 
-def shape(texts, rooms=0, numbers=0):
-    """The type of a function with this many texts, as many tables, and buffers, and so many numbers."""
+def shape(texts, rooms=(), beside=None):
+    """The type of a function with this many texts, as many tables, these kinds of buffers or lists, and perhaps a kind and
+    a count of what stands beside the answer."""
     buffer = [ctypes.c_void_p, ctypes.c_size_t]
-    behind = [ctypes.c_void_p] * (2 if numbers else 1)
-    return ctypes.CFUNCTYPE(None, *(buffer * (2 * texts + rooms)), *behind)
+    behind = [ctypes.c_void_p] * (2 if beside else 1)
+    return ctypes.CFUNCTYPE(None, *(buffer * (2 * texts + len(rooms))), *behind)
 
 
-def load(path, name, texts, rooms=0, numbers=0):
+def load(path, name, texts, rooms=(), beside=None):
     """A function of the shared library at the path."""
     function = getattr(ctypes.CDLL(os.path.abspath(path)), name)
-    function.restype = shape(texts, rooms, numbers)._restype_
-    function.argtypes = shape(texts, rooms, numbers)._argtypes_
+    function.restype = shape(texts, rooms, beside)._restype_
+    function.argtypes = shape(texts, rooms, beside)._argtypes_
     return function
 
 
-def model_function(service, texts, rooms=0, numbers=0):
+def model_function(service, texts, rooms=(), beside=None):
     """A service of the model as a function of the library's shape."""
-    codes = [WORDS] * texts + [BYTES] * rooms + [NUMBERS]
-    paired = 2 * (2 * texts + rooms)
+    kind, count = beside or (Words, 0)
+    codes = [WORDS] * texts + [room.code for room in rooms] + [kind.code]
+    paired = 2 * (2 * texts + len(rooms))
 
     def function(*arguments):
         buffers = list(zip(arguments[0:paired:2], arguments[1:paired:2]))
         answer, *behind = arguments[paired:]
         found = [ctypes.string_at(*buffer) for buffer in buffers[:texts]]
-        places = buffers[texts:] + [(address, numbers) for address in behind]
+        places = buffers[texts:] + [(address, count) for address in behind]
         lent = [read_items(code, *place) for code, place in zip(codes, places)]
         words = service(*found, *lent)
         for code, (address, _), items in zip(codes, places, lent):
             write_items(code, address, items)
         write_items(WORDS, answer, words)
-    return shape(texts, rooms, numbers)(function)
+    return shape(texts, rooms, beside)(function)
 
 
 def read_items(code, address, count):
@@ -76,7 +78,7 @@ def write_items(code, address, items):
 class Words:
     """Random words with guard words before and behind."""
 
-    code = WORDS
+    code, name = WORDS, "list"
 
     def __init__(self, count, chance):
         self.count = count
@@ -110,13 +112,13 @@ class Words:
 class Bytes(Words):
     """A buffer to write to: random bytes with guard bytes before and behind."""
 
-    code = BYTES
+    code, name = BYTES, "buffer"
 
 
 class Numbers(Words):
     """Random numbers of 64 bits, with a sign, with others before and behind."""
 
-    code = NUMBERS
+    code, name = NUMBERS, "numbers"
 
 
 class Text:
@@ -152,14 +154,15 @@ def exact_length(rows, chance):
 def length_with_room(rows, chance):
     """Words that hold every row: exactly enough, or more."""
     exact = exact_length(rows, chance)
-    return exact + chance.choice([0, 0, 0, 1, 4, 5, chance.randint(1, 30)])
+    return exact + chance.choice([0, 0, 0, 1, model.ROW_WORDS - 1, model.ROW_WORDS, chance.randint(1, 30)])
 
 
 def any_length(rows, chance):
     """A few words, about enough, one row less, or more."""
     exact = exact_length(rows, chance)
-    near = [exact - 5, exact - 5, exact - 1, exact, exact + 1, exact + chance.randint(1, 30)]
-    return max(0, chance.choice([chance.randint(0, 6)] * 3 + near))
+    less = exact - model.ROW_WORDS
+    near = [less, less, exact - 1, exact, exact + 1, exact + chance.randint(1, 30)]
+    return max(0, chance.choice([chance.randint(0, model.ROW_WORDS + 1)] * 3 + near))
 
 
 def pair_lengths(needed, chance):
@@ -171,12 +174,14 @@ def pair_lengths(needed, chance):
 
 # Comparing.
 
-def compare(function, service, texts, lengths, chance, rooms=(), numbers=0):
-    """Runs the function and the model once; gives whether they agree."""
+def compare(function, service, texts, lengths, chance, rooms=(), beside=None):
+    """Runs the function and the model once, with these buffers or lists and this beside the answer; gives whether they
+    agree."""
     buffers = [Text(text, chance) for text in texts]
-    lent = named_buffers(lengths, rooms, chance)
+    lent = {"table %d" % number: Words(length, chance) for number, length in enumerate(lengths, 1)}
+    lent.update({room.name: room for room in rooms})
     answer = Words(ANSWER, chance)
-    behind = {"numbers": Numbers(numbers, chance)} if numbers else {}
+    behind = {"%s beside the answer" % beside.name: beside} if beside else {}
     before = addresses([*buffers, *lent.values()])
     lent.update(behind)
     wanted_words = {name: words.words() for name, words in lent.items()}
@@ -188,13 +193,6 @@ def compare(function, service, texts, lengths, chance, rooms=(), numbers=0):
     if differences:
         report(texts, lent, answer, wanted, wanted_words, differences)
     return not differences
-
-
-def named_buffers(lengths, rooms, chance):
-    """Tables and buffers of these lengths, each with its name."""
-    found = {"table %d" % number: Words(length, chance) for number, length in enumerate(lengths, 1)}
-    found.update({"buffer %d" % number: Bytes(room, chance) for number, room in enumerate(rooms, 1)})
-    return found
 
 
 def addresses(buffers):

@@ -12,7 +12,7 @@ from functools import lru_cache
 DOCUMENT_LIMIT, DOCUMENT_DEPTH = 65536, 32
 SCHEMA_LIMIT, SCHEMA_DEPTH = 16384, 24
 
-ROW_WORDS = 5
+ROW_WORDS = 6
 
 # Kinds of rows.
 NULL, FALSE, TRUE, INTEGER, OTHER_NUMBER, STRING, ARRAY, OBJECT, NAME = range(1, 10)
@@ -64,9 +64,30 @@ def read(text, table, limit=DOCUMENT_LIMIT, depth=DOCUMENT_DEPTH, which=1):
 def read_whole(text, depth):
     """The first offence or None, the rows and the tree, whatever the table."""
     try:
-        return (None, *Reader(text, depth).read_text())
+        rows, found = Reader(text, depth).read_text()
     except Refusal as refusal:
         return ((refusal.code, refusal.place), None, None)
+    return None, [row + [around] for row, around in zip(rows, rows_around(found))], found
+
+
+def rows_around(top):
+    """The sixth words, in the order of the rows: the row of the array or object that a value stands in,
+    for a name and the value under it that of their object; the top has 0."""
+    found = []
+
+    def visit(node, around):
+        own = len(found)
+        found.append(around)
+        if node.kind == ARRAY:
+            for element in node.content:
+                visit(element, own)
+        elif node.kind == OBJECT:
+            for member in node.content:
+                found.append(own)
+                visit(member.value, own)
+
+    visit(top, 0)
+    return found
 
 
 def write_rows(rows, table):
@@ -119,7 +140,7 @@ def scalar_values(characters):
 
 
 class Reader:
-    """Reads one text from left to right, keeping its rows."""
+    """Reads one text from left to right, keeping the first five words of its rows."""
 
     def __init__(self, text, depth):
         self.text = text

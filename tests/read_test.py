@@ -25,12 +25,12 @@ def table_lengths(text, chance):
     """Numbers of words of the tables that a text is given."""
     rows = harness.rows_needed(text)
     if rows is None:
-        return [chance.choice([0, 1, 4, 5, 9, 5 * len(text) + 5])]
+        return [chance.choice([0, 1, 5, 6, 11, model.ROW_WORDS * (len(text) + 1)])]
     exact = model.ROW_WORDS * rows
     lengths = [exact, exact - model.ROW_WORDS]
     if len(text) <= LONG:
         more = exact + chance.randint(1, 30)
-        lengths.append(chance.choice([0, 1, 4, 5, 9, exact - 1, exact + 4, more]))
+        lengths.append(chance.choice([0, 1, 5, 6, 11, exact - 1, exact + 5, more]))
     return lengths
 
 
@@ -51,7 +51,7 @@ def run_library(function, count, seed):
 def model_results():
     """Pairs of a text and whether the model answers it as the papers say."""
     for text, answer in edge_cases.CASES:
-        yield text, model.read(text, [0] * (5 * len(text))) == answer
+        yield text, model.read(text, [0] * (model.ROW_WORDS * len(text))) == answer
     for text, rows in edge_cases.ROW_CASES:
         yield text, rows_are(text, rows)
     for text, length, answer in edge_cases.ROOM_CASES:
