@@ -3,9 +3,10 @@
 PREFIX ?= /usr/local
 LIBRARY = target/lib
 PROGRAMS = target/bin
-VERSION = 0.1.0
+VERSION = 0.2.0
+SHARED = libteleport.so.2
 
-all: $(LIBRARY)/libteleport.a $(LIBRARY)/libteleport.so $(LIBRARY)/teleport.pc programs
+all: $(LIBRARY)/libteleport.a $(LIBRARY)/$(SHARED) $(LIBRARY)/libteleport.so $(LIBRARY)/teleport.pc programs
 
 .PHONY: all programs install FORCE
 
@@ -18,8 +19,15 @@ $(LIBRARY)/libteleport.a: FORCE
 	mkdir -p $(LIBRARY)
 	cp target/staticlib/libteleport_c.a $@
 
-$(LIBRARY)/libteleport.so: $(LIBRARY)/libteleport.a
-	$(CC) -shared -o $@ -Wl,--whole-archive $< -Wl,--no-whole-archive
+$(LIBRARY)/$(SHARED): $(LIBRARY)/libteleport.a
+	$(CC) -shared -Wl,-soname,$(SHARED) -o $@ -Wl,--whole-archive $< -Wl,--no-whole-archive
+
+# What -lteleport finds: the linker goes on to the library. The loader refuses this file, so that a program that asks for
+# a library of this name, whose rows are of another width, does not start.
+$(LIBRARY)/libteleport.so: FORCE
+	mkdir -p $(LIBRARY)
+	rm -f $@
+	printf '%s\n' 'INPUT($(SHARED))' > $@
 
 $(LIBRARY)/teleport.pc: FORCE
 	mkdir -p $(LIBRARY)
@@ -32,5 +40,6 @@ install: all
 	install -m 644 man/teleport.1 man/teleport-tools.1 $(DESTDIR)$(PREFIX)/share/man/man1
 	install -m 644 include/teleport.h $(DESTDIR)$(PREFIX)/include
 	install -m 644 $(LIBRARY)/libteleport.a $(DESTDIR)$(PREFIX)/lib
-	install -m 755 $(LIBRARY)/libteleport.so $(DESTDIR)$(PREFIX)/lib
+	install -m 755 $(LIBRARY)/$(SHARED) $(DESTDIR)$(PREFIX)/lib
+	install -m 644 $(LIBRARY)/libteleport.so $(DESTDIR)$(PREFIX)/lib
 	install -m 644 $(LIBRARY)/teleport.pc $(DESTDIR)$(PREFIX)/lib/pkgconfig

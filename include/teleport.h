@@ -1,6 +1,6 @@
 /*
- * Reads JSON text, checks a document against a Teleport schema and gives its dates, compares two schemas, shows by a
- * document that one is not carried to the other, writes a text in its one spelling.
+ * Reads JSON text, checks a document against a Teleport schema and gives its dates or the path to what does not fit,
+ * compares two schemas, shows by a document that one is not carried to the other, writes a text in its one spelling.
  */
 #ifndef TELEPORT_H
 #define TELEPORT_H
@@ -11,6 +11,12 @@
 #ifdef __cplusplus
 extern "C" {
 #endif
+
+/*
+ * Rows have six words, so that a table of w words holds w / 6 of them, rounded down. The shared library is called
+ * libteleport.so.2: a program that was compiled for rows of another width does not load it.
+ */
+#define TELEPORT_VERSION "0.2.0"
 
 /*
  * answer[0]. Behind each code: answer[2], the place, and answer[3], other. A place is a byte of a text, counted from 0.
@@ -26,7 +32,7 @@ enum teleport_code {
     TELEPORT_LONE_SURROGATE = 5,      /* the first byte that shows it; 0 */
     TELEPORT_NAME_TWICE = 6,          /* the closing quote of the later name; 0 */
     TELEPORT_TOO_DEEP = 7,            /* the opening bracket; 0 */
-    TELEPORT_NO_ROOM = 8,             /* 0; the rows needed */
+    TELEPORT_NO_ROOM = 8,             /* 0; the rows needed; with text 0, the list is short: the words it needs */
     TELEPORT_NOT_A_DEFINITION = 10,   /* the first byte of the value; 0 */
     TELEPORT_UNKNOWN_TYPE = 11,       /* the opening quote of its name; 0 */
     TELEPORT_REQUIRED_OPTIONAL = 12,  /* the opening quote of the name under "optional"; 0 */
@@ -55,17 +61,21 @@ enum {
     TELEPORT_SCHEMA_DEPTH = 24
 };
 
+/* The least words of a list for a path. */
+enum { TELEPORT_PATH_WORDS = TELEPORT_DOCUMENT_DEPTH + 1 };
+
 /* A call needs less than this much stack. */
 enum { TELEPORT_STACK_BYTES = 327680 };
 
-/* A table has one row of five words for each value and each member name, in order of their first bytes. */
+/* A table has one row of six words for each value and each member name, in order of their first bytes. */
 enum {
     TELEPORT_ROW_KIND = 0,
     TELEPORT_ROW_FIRST = 1,    /* first byte; of a string or name, its opening quote */
     TELEPORT_ROW_END = 2,      /* the byte after the last */
     TELEPORT_ROW_CHILDREN = 3, /* its elements or members */
     TELEPORT_ROW_SUBTREE = 4,  /* rows of the whole subtree, its own included */
-    TELEPORT_ROW_WORDS = 5
+    TELEPORT_ROW_PARENT = 5,   /* row of the array or object that it stands in; a name stands in its object; 0 at the top */
+    TELEPORT_ROW_WORDS = 6
 };
 
 enum teleport_kind {
@@ -82,12 +92,12 @@ enum teleport_kind {
 
 /*
  * What the caller keeps, in each call:
- * - A text pointer is not NULL and leads to as many readable bytes as its length says; a table pointer is not NULL, is
- *   aligned for uint32_t and leads to as many writable words as its length says; a buffer pointer is not NULL and leads
- *   to as many writable bytes as its length says. A length may be 0.
- * - answer has four words; dates has three numbers and is aligned for int64_t. Neither overlaps the other. No table or
- *   buffer overlaps another table, a text, the answer or the dates, and nobody else writes to any of them during the
- *   call. The two texts may overlap or be the same.
+ * - A text pointer is not NULL and leads to as many readable bytes as its length says; the pointer of a table or of the
+ *   path is not NULL, is aligned for uint32_t and leads to as many writable words as its length says; a buffer pointer is
+ *   not NULL and leads to as many writable bytes as its length says. A length may be 0.
+ * - answer has four words; dates has three numbers and is aligned for int64_t; steps has one word. No table, path or
+ *   buffer, nor the answer, the dates or the steps, overlaps another of these or a text, and nobody else writes to any of
+ *   them during the call. The two texts may overlap or be the same.
  *
  * Every call returns, whatever the bytes are. It allocates nothing, keeps no state, may run on several threads and
  * needs less than TELEPORT_STACK_BYTES (320 KiB) of stack.
@@ -95,7 +105,7 @@ enum teleport_kind {
  * Tables afterwards:
  * - With the codes 1 to 8 the table of the text that the answer names is as it was, and so is that of a text that was not
  *   reached: where Check refuses the schema, the document's; where Compare refuses the new schema, the old one's.
- *   With 31 all tables are as they were.
+ *   With 31, and with 8 and text 0, all tables are as they were.
  * - Every other table holds the rows of its text, and the words behind the last row are as they were: with 0, 20 to 22, 30
  *   and 60 all tables; with 10 to 12 that of the schema that is refused; where Check refuses the document, the schema's; where
  *   Compare refuses the old schema, the new one's. A text has at most as many rows as bytes.
@@ -104,8 +114,8 @@ enum teleport_kind {
  * were; with every other answer it is as it was.
  *
  *     static const uint8_t text[] = "[1,]";
- *     uint32_t table[5 * 4], answer[4];
- *     teleport_read(text, 4, table, 20, answer);    answer is 3 1 3 0: the byte at place 3 is not allowed there
+ *     uint32_t table[6 * 4], answer[4];
+ *     teleport_read(text, 4, table, 24, answer);    answer is 3 1 3 0: the byte at place 3 is not allowed there
  */
 
 /* Is the text well-formed JSON? Writes its rows to table. */
@@ -129,6 +139,17 @@ void teleport_check(const uint8_t *document, size_t document_len, const uint8_t 
 void teleport_check_dates(const uint8_t *document, size_t document_len, const uint8_t *schema, size_t schema_len,
                           uint32_t *table1, size_t table1_len, uint32_t *table2, size_t table2_len,
                           uint32_t answer[4], int64_t dates[3]);
+
+/*
+ * Check, with the same answer and tables, and the path to what does not fit. With 20 to 22, path has row numbers of
+ * table1: the row of the value at the place, with 21 that of the object, then the row that it stands in, which is its word
+ * TELEPORT_ROW_PARENT, and so on up to the top's, 0. steps[0] is how many there are. With every other code steps[0] is 0.
+ * The words behind the path, and with other codes all of the list, are as they were. A list of fewer words than
+ * TELEPORT_PATH_WORDS is 8 0 0 33, before everything else.
+ */
+void teleport_check_path(const uint8_t *document, size_t document_len, const uint8_t *schema, size_t schema_len,
+                         uint32_t *table1, size_t table1_len, uint32_t *table2, size_t table2_len,
+                         uint32_t *path, size_t path_len, uint32_t answer[4], uint32_t steps[1]);
 
 /* Does every JSON value that meets the new schema (text 1, table1) meet the old one (text 2, table2)? */
 void teleport_compare(const uint8_t *new_schema, size_t new_len, const uint8_t *old_schema, size_t old_len,

@@ -1,8 +1,8 @@
 /*
- * Calls the library as a C program does, and compares with answers, rows and dates that are stated here.
+ * Calls the library as a C program does, and compares with answers, rows, dates and paths that are stated here.
  * Each call is made twice: with every buffer right behind a page that traps, and right before one. The words around a
- * table, an answer or the dates, and the bytes around a buffer that is written to, must stay as they were; a text stands
- * in pages that may only be read, with more of it behind.
+ * table, an answer, the dates, a path or its steps, and the bytes around a buffer that is written to, must stay as they
+ * were; a text stands in pages that may only be read, with more of it behind.
  */
 #define _DEFAULT_SOURCE
 #include <stdio.h>
@@ -13,6 +13,9 @@
 #include <teleport.h>
 
 enum { ROOM = 512, FILL = 0x5a5a5a5a, LONGEST = 65536, LONG_ROWS = 32768, DATES_WORDS = 2 * TELEPORT_DATES_NUMBERS };
+
+/* The longest of the tables of every small length: more than most texts need. */
+enum { SMALL = 12 * TELEPORT_ROW_WORDS };
 
 static unsigned long passed, failed;
 
@@ -80,7 +83,7 @@ static int as_lent(const struct area *area, const uint32_t *from, const uint32_t
     return 1;
 }
 
-/* A table, an answer or the dates after a call: what stands in it, the rest of it, and what stands around it. */
+/* A table, an answer, the dates or a path after a call: what stands in it, the rest of it, and what stands around it. */
 struct lent {
     const struct area *area;
     const uint32_t *words;
@@ -120,7 +123,7 @@ static int bytes_hold(const struct area *area, const uint8_t *buffer, const char
     return 1;
 }
 
-static struct area text_areas[2], table_areas[2], answer_area, dates_area, buffer_area;
+static struct area text_areas[2], table_areas[2], answer_area, dates_area, path_area, steps_area, buffer_area;
 
 /* For a buffer of the longest document's length, and for one that has a byte more. */
 static struct area whole_area, larger_area;
@@ -146,12 +149,15 @@ struct reading {
 #define READ(from, ...) {from, TELEPORT_OK, 0, WORDS(__VA_ARGS__)}
 
 static const struct reading readings[] = {
-    {"{\"a\":[1,true]}", {ENDED(0), READ(14, 8,0,14,1,5, 9,1,4,0,1, 7,5,13,2,3, 4,6,7,0,1, 3,8,12,0,1)}},
+    {"{\"a\":[1,true]}", {ENDED(0), READ(14, 8,0,14,1,5,0, 9,1,4,0,1,0, 7,5,13,2,3,0, 4,6,7,0,1,2, 3,8,12,0,1,2)}},
     {"{\"n\":null,\"f\":[false,-0,1.5,\"\\u00e9\"]}", {ENDED(0), READ(38,
-        8,0,38,2,9, 9,1,4,0,1, 1,5,9,0,1, 9,10,13,0,1, 7,14,37,4,5, 2,15,20,0,1, 4,21,23,0,1, 5,24,27,0,1, 6,28,36,0,1)}},
-    {"-0.5e+3", {ENDED(0), READ(2, 4,0,2,0,1), ENDED(3), READ(4, 5,0,4,0,1), ENDED(5), READ(7, 5,0,7,0,1)}},
-    {"[{}] \n 0", {ENDED(0), READ(4, 7,0,4,1,2, 8,1,3,0,1), REFUSED(8, 3, 7)}},
-    {"01", {ENDED(0), READ(1, 4,0,1,0,1), REFUSED(2, 3, 1)}},
+        8,0,38,2,9,0, 9,1,4,0,1,0, 1,5,9,0,1,0, 9,10,13,0,1,0, 7,14,37,4,5,0, 2,15,20,0,1,4, 4,21,23,0,1,4, 5,24,27,0,1,4,
+        6,28,36,0,1,4)}},
+    {"[[1],{\"a\":[]},2]", {ENDED(0), READ(16,
+        7,0,16,3,7,0, 7,1,4,1,2,0, 4,2,3,0,1,1, 8,5,13,1,3,0, 9,6,9,0,1,3, 7,10,12,0,1,3, 4,14,15,0,1,0)}},
+    {"-0.5e+3", {ENDED(0), READ(2, 4,0,2,0,1,0), ENDED(3), READ(4, 5,0,4,0,1,0), ENDED(5), READ(7, 5,0,7,0,1,0)}},
+    {"[{}] \n 0", {ENDED(0), READ(4, 7,0,4,1,2,0, 8,1,3,0,1,0), REFUSED(8, 3, 7)}},
+    {"01", {ENDED(0), READ(1, 4,0,1,0,1,0), REFUSED(2, 3, 1)}},
     {"[1,]", {ENDED(0), REFUSED(4, 3, 3)}},
     {"\xef\xbb\xbf""1", {ENDED(0), REFUSED(1, 3, 0)}},
     {" { \"\\u0061\" : -0.5e+3 , \"a\" : null } ", {ENDED(0), REFUSED(27, 6, 26)}},
@@ -205,10 +211,10 @@ static void read_beginnings(const struct reading *reading) {
 
 /* Fills a text and its rows: space, and an array of ones. */
 static void make_longest(char *text, uint32_t *rows) {
-    const uint32_t array[] = {7, 1, LONGEST, LONG_ROWS - 1, LONG_ROWS};
+    const uint32_t array[] = {7, 1, LONGEST, LONG_ROWS - 1, LONG_ROWS, 0};
     memcpy(rows, array, sizeof array);
     for (uint32_t i = 1; i < LONG_ROWS; i++) {
-        const uint32_t one[] = {4, 2 * i, 2 * i + 1, 0, 1};
+        const uint32_t one[] = {4, 2 * i, 2 * i + 1, 0, 1, 0};
         memcpy(rows + i * TELEPORT_ROW_WORDS, one, sizeof one);
         memcpy(text + 2 * i - 1, ",1", 2);
     }
@@ -251,34 +257,36 @@ struct pair {
 
 static const struct text
     april_31 = {"{\"from\":\"2024-04-31T08:00:00Z\",\"to\":\"2024-05-01T00:00:00Z\"}",
-        WORDS(8,0,59,2,5, 9,1,7,0,1, 6,8,30,0,1, 9,31,35,0,1, 6,36,58,0,1)},
+        WORDS(8,0,59,2,5,0, 9,1,7,0,1,0, 6,8,30,0,1,0, 9,31,35,0,1,0, 6,36,58,0,1,0)},
     april_30 = {"{\"from\":\"2024-04-30T08:00:00Z\",\"to\":\"2024-05-01T00:00:00Z\"}",
-        WORDS(8,0,59,2,5, 9,1,7,0,1, 6,8,30,0,1, 9,31,35,0,1, 6,36,58,0,1)},
+        WORDS(8,0,59,2,5,0, 9,1,7,0,1,0, 6,8,30,0,1,0, 9,31,35,0,1,0, 6,36,58,0,1,0)},
     season = {"{\"Object\":{\"required\":{\"from\":\"DateTime\",\"to\":\"DateTime\"}}}",
-        WORDS(8,0,59,1,9, 9,1,9,0,1, 8,10,58,1,7, 9,11,21,0,1, 8,22,57,2,5, 9,23,29,0,1, 6,30,40,0,1, 9,41,45,0,1, 6,46,56,0,1)},
-    leap_second = {"\"1990-12-31T15:59:60-08:00\"", WORDS(6,0,27,0,1)},
-    no_leap_second = {"\"2024-04-30T23:59:60Z\"", WORDS(6,0,22,0,1)},
-    date = {"\"DateTime\"", WORDS(6,0,10,0,1)},
+        WORDS(8,0,59,1,9,0, 9,1,9,0,1,0, 8,10,58,1,7,0, 9,11,21,0,1,2, 8,22,57,2,5,2, 9,23,29,0,1,4, 6,30,40,0,1,4,
+              9,41,45,0,1,4, 6,46,56,0,1,4)},
+    leap_second = {"\"1990-12-31T15:59:60-08:00\"", WORDS(6,0,27,0,1,0)},
+    no_leap_second = {"\"2024-04-30T23:59:60Z\"", WORDS(6,0,22,0,1,0)},
+    date = {"\"DateTime\"", WORDS(6,0,10,0,1,0)},
     optional_a = {"{\"Object\":{\"optional\":{\"a\":\"String\"}}}",
-        WORDS(8,0,38,1,7, 9,1,9,0,1, 8,10,37,1,5, 9,11,21,0,1, 8,22,36,1,3, 9,23,26,0,1, 6,27,35,0,1)},
+        WORDS(8,0,38,1,7,0, 9,1,9,0,1,0, 8,10,37,1,5,0, 9,11,21,0,1,2, 8,22,36,1,3,2, 9,23,26,0,1,4, 6,27,35,0,1,4)},
     both_a = {"{\"Object\":{\"required\":{\"a\":\"JSON\"},\"optional\":{\"\\u0061\":\"JSON\"}}}",
-        WORDS(8,0,65,1,11, 9,1,9,0,1, 8,10,64,2,9, 9,11,21,0,1, 8,22,34,1,3, 9,23,26,0,1, 6,27,33,0,1,
-              9,35,45,0,1, 8,46,63,1,3, 9,47,55,0,1, 6,56,62,0,1)},
+        WORDS(8,0,65,1,11,0, 9,1,9,0,1,0, 8,10,64,2,9,0, 9,11,21,0,1,2, 8,22,34,1,3,2, 9,23,26,0,1,4, 6,27,33,0,1,4,
+              9,35,45,0,1,2, 8,46,63,1,3,2, 9,47,55,0,1,8, 6,56,62,0,1,8)},
     float_a = {"{\"Object\":{\"required\":{\"b\":\"Boolean\",\"a\":\"Float\"}}}",
-        WORDS(8,0,51,1,9, 9,1,9,0,1, 8,10,50,1,7, 9,11,21,0,1, 8,22,49,2,5, 9,23,26,0,1, 6,27,36,0,1, 9,37,40,0,1, 6,41,48,0,1)},
+        WORDS(8,0,51,1,9,0, 9,1,9,0,1,0, 8,10,50,1,7,0, 9,11,21,0,1,2, 8,22,49,2,5,2, 9,23,26,0,1,4, 6,27,36,0,1,4,
+              9,37,40,0,1,4, 6,41,48,0,1,4)},
     integer_a = {"{\"Object\":{\"required\":{\"a\":\"Integer\"}}}",
-        WORDS(8,0,39,1,7, 9,1,9,0,1, 8,10,38,1,5, 9,11,21,0,1, 8,22,37,1,3, 9,23,26,0,1, 6,27,36,0,1)},
-    open = {"{\"Object\":{}}", WORDS(8,0,13,1,3, 9,1,9,0,1, 8,10,12,0,1)},
-    empty = {"{}", WORDS(8,0,2,0,1)},
-    fraction = {"1.0", WORDS(5,0,3,0,1)},
-    one = {"1", WORDS(4,0,1,0,1)},
-    list = {"[]", WORDS(7,0,2,0,1)},
+        WORDS(8,0,39,1,7,0, 9,1,9,0,1,0, 8,10,38,1,5,0, 9,11,21,0,1,2, 8,22,37,1,3,2, 9,23,26,0,1,4, 6,27,36,0,1,4)},
+    open = {"{\"Object\":{}}", WORDS(8,0,13,1,3,0, 9,1,9,0,1,0, 8,10,12,0,1,0)},
+    empty = {"{}", WORDS(8,0,2,0,1,0)},
+    fraction = {"1.0", WORDS(5,0,3,0,1,0)},
+    one = {"1", WORDS(4,0,1,0,1,0)},
+    list = {"[]", WORDS(7,0,2,0,1,0)},
     comma = {"[1,]", NULL, 0},
     cut = {"{\"Array\":", NULL, 0},
-    json = {"\"JSON\"", WORDS(6,0,6,0,1)},
-    integer = {"\"Integer\"", WORDS(6,0,9,0,1)},
-    number = {"\"Float\"", WORDS(6,0,7,0,1)},
-    unknown = {"\"Number\"", WORDS(6,0,8,0,1)};
+    json = {"\"JSON\"", WORDS(6,0,6,0,1,0)},
+    integer = {"\"Integer\"", WORDS(6,0,9,0,1,0)},
+    number = {"\"Float\"", WORDS(6,0,7,0,1,0)},
+    unknown = {"\"Number\"", WORDS(6,0,8,0,1,0)};
 
 static const struct pair pairs[] = {
     {teleport_check, {&april_31, &season}, {22, 1, 8, 30}},
@@ -388,7 +396,7 @@ static void call_with(const struct pair *pair, const int64_t *dates, const size_
 
 /* Tables of every small length: both, and each beside one with room. */
 static void call_pair(const struct pair *pair, const int64_t *dates) {
-    for (size_t words = 0; words <= 60; words++) {
+    for (size_t words = 0; words <= SMALL; words++) {
         const size_t lengths[3][2] = {{words, words}, {words, ROOM}, {ROOM, words}};
         for (int i = 0; i < 3; i++) {
             call_with(pair, dates, lengths[i], AT_START);
@@ -404,11 +412,11 @@ struct dating {
 };
 
 static const struct text
-    before_1970 = {"[\"1970-01-01T00:00:00+01:00\",\"1969-12-31T23:59:59.5Z\"]", WORDS(7,0,54,2,3, 6,1,28,0,1, 6,29,53,0,1)},
-    extremes = {"[\"9999-12-31T23:59:59-23:59\",\"0000-01-01T00:00:00+23:59\"]", WORDS(7,0,57,2,3, 6,1,28,0,1, 6,29,56,0,1)},
-    then_one = {"[\"1970-01-01T00:00:00Z\",1]", WORDS(7,0,26,2,3, 6,1,23,0,1, 4,24,25,0,1)},
-    times = {"{\"Array\":\"DateTime\"}", WORDS(8,0,20,1,3, 9,1,8,0,1, 6,9,19,0,1)},
-    strings = {"{\"Array\":\"String\"}", WORDS(8,0,18,1,3, 9,1,8,0,1, 6,9,17,0,1)};
+    before_1970 = {"[\"1970-01-01T00:00:00+01:00\",\"1969-12-31T23:59:59.5Z\"]", WORDS(7,0,54,2,3,0, 6,1,28,0,1,0, 6,29,53,0,1,0)},
+    extremes = {"[\"9999-12-31T23:59:59-23:59\",\"0000-01-01T00:00:00+23:59\"]", WORDS(7,0,57,2,3,0, 6,1,28,0,1,0, 6,29,56,0,1,0)},
+    then_one = {"[\"1970-01-01T00:00:00Z\",1]", WORDS(7,0,26,2,3,0, 6,1,23,0,1,0, 4,24,25,0,1,0)},
+    times = {"{\"Array\":\"DateTime\"}", WORDS(8,0,20,1,3,0, 9,1,8,0,1,0, 6,9,19,0,1,0)},
+    strings = {"{\"Array\":\"String\"}", WORDS(8,0,18,1,3,0, 9,1,8,0,1,0, 6,9,17,0,1,0)};
 
 static const struct dating datings[] = {
     {{teleport_check, {&april_30, &season}, {0, 0, 0, 0}}, {2, 1714464000, 1714521600}},
@@ -426,6 +434,106 @@ static const struct dating datings[] = {
     {{teleport_check, {&json, &json}, {0, 0, 0, 0}}, {0, 0, 0}},
 };
 
+/* Check with the path: lists of every small length, and tables of every small length. */
+
+struct pathing {
+    struct pair pair;
+    uint32_t path[TELEPORT_SCHEMA_DEPTH + 1]; /* on 20 to 22 */
+    size_t steps;
+};
+
+static const struct text
+    example = {"{\"a\":[1,true]}", WORDS(8,0,14,1,5,0, 9,1,4,0,1,0, 7,5,13,2,3,0, 4,6,7,0,1,2, 3,8,12,0,1,2)},
+    whole_lists = {"{\"Map\":{\"Array\":\"Integer\"}}", WORDS(8,0,27,1,5,0, 9,1,6,0,1,0, 8,7,26,1,3,0, 9,8,15,0,1,2, 6,16,25,0,1,2)},
+    second_lacks = {"[{\"a\":1},{\"b\":2}]", WORDS(7,0,17,2,7,0, 8,1,8,1,3,0, 9,2,5,0,1,1, 4,6,7,0,1,1, 8,9,16,1,3,0, 9,10,13,0,1,4,
+        4,14,15,0,1,4)},
+    each_a = {"{\"Array\":{\"Object\":{\"required\":{\"a\":\"Integer\"}}}}", WORDS(8,0,49,1,9,0, 9,1,8,0,1,0, 8,9,48,1,7,0, 9,10,18,0,1,2,
+        8,19,47,1,5,2, 9,20,30,0,1,4, 8,31,46,1,3,4, 9,32,35,0,1,6, 6,36,45,0,1,6)};
+
+static const struct pathing pathings[] = {
+    {{teleport_check, {&example, &whole_lists}, {20, 1, 8, 16}}, {4, 2, 0}, 3},
+    {{teleport_check, {&second_lacks, &each_a}, {21, 1, 9, 32}}, {4, 0}, 2},
+    {{teleport_check, {&april_31, &season}, {22, 1, 8, 30}}, {2, 0}, 2},
+    {{teleport_check, {&then_one, &times}, {20, 1, 24, 9}}, {2, 0}, 2},
+    {{teleport_check, {&fraction, &integer}, {20, 1, 0, 0}}, {0}, 1},
+    {{teleport_check, {&empty, &season}, {21, 1, 0, 23}}, {0}, 1},
+    {{teleport_check, {&no_leap_second, &date}, {22, 1, 0, 0}}, {0}, 1},
+    {{teleport_check, {&april_30, &season}, {0, 0, 0, 0}}, {0}, 0},
+    {{teleport_check, {&json, &json}, {0, 0, 0, 0}}, {0}, 0},
+    {{teleport_check, {&comma, &times}, {3, 1, 3, 0}}, {0}, 0},
+    {{teleport_check, {&extremes, &cut}, {2, 2, 9, 0}}, {0}, 0},
+    {{teleport_check, {&example, &list}, {10, 2, 0, 0}}, {0}, 0},
+    {{teleport_check, {&example, &unknown}, {11, 2, 0, 0}}, {0}, 0},
+    {{teleport_check, {&comma, &both_a}, {12, 2, 47, 0}}, {0}, 0},
+};
+
+/* 02, L11: "A list under 33 words is 8 with text 0 and other 33, before everything". */
+static void path_with(const struct pathing *says, const size_t words[2], size_t room, enum side side) {
+    const struct outcome short_list = {{TELEPORT_NO_ROOM, 0, 0, TELEPORT_PATH_WORDS}, {0, 0}};
+    const struct pair *pair = &says->pair;
+    const struct outcome wanted = room < TELEPORT_PATH_WORDS ? short_list : outcome_of(pair, words);
+    uint32_t code = wanted.answer[TELEPORT_CODE];
+    uint32_t steps = code >= TELEPORT_WRONG_KIND && code <= TELEPORT_NO_DATE ? (uint32_t)says->steps : 0;
+    const struct lending lent = lend_pair(pair, words, side);
+    const char *name = pair->texts[0]->text;
+    uint32_t *list = lend_words(&path_area, room, side), *given = lend_words(&steps_area, 1, side);
+    teleport_check_path(lent.texts[0], lent.lengths[0], lent.texts[1], lent.lengths[1], lent.tables[0], words[0],
+        lent.tables[1], words[1], list, room, lent.answer, given);
+    struct lent path = {&path_area, list, room}, count = {&steps_area, given, 1};
+    expect_outcome(pair, &lent, &wanted);
+    expect(holds(&path, says->path, steps), "the path", name, lent.lengths[0]);
+    expect(guards_hold(&path), "the words around the path", name, lent.lengths[0]);
+    expect(holds(&count, &steps, 1), "the steps", name, lent.lengths[0]);
+    expect(guards_hold(&count), "the words around the steps", name, lent.lengths[0]);
+}
+
+static void path_pair(const struct pathing *says) {
+    const size_t roomy[2] = {ROOM, ROOM}, none[2] = {0, 0};
+    for (size_t room = 0; room <= 2 * TELEPORT_PATH_WORDS; room++) {
+        path_with(says, roomy, room, AT_START);
+        path_with(says, roomy, room, AT_END);
+        path_with(says, none, room, room % 2 ? AT_START : AT_END);
+    }
+    for (size_t words = 0; words <= SMALL; words++) {
+        const size_t lengths[3][2] = {{words, words}, {words, ROOM}, {ROOM, words}};
+        for (int i = 0; i < 3; i++) path_with(says, lengths[i], TELEPORT_PATH_WORDS, words % 2 ? AT_START : AT_END);
+    }
+}
+
+/* A string inside as many arrays as a schema has brackets, which asks for a number there: the longest path. */
+static void path_deepest(void) {
+    enum { DEPTH = TELEPORT_SCHEMA_DEPTH, OPENING = 9 /* bytes */ };
+    static char document[2 * DEPTH + 3], schema[(OPENING + 1) * DEPTH + 10];
+    static uint32_t rows[DEPTH + 1][TELEPORT_ROW_WORDS], schema_rows[2 * DEPTH + 1][TELEPORT_ROW_WORDS];
+    static struct pathing says;
+    size_t length = 0, schema_length = 0;
+    for (uint32_t i = 0; i < DEPTH; i++) {
+        const uint32_t array[] = {7, i, 2 * DEPTH + 2 - i, 1, DEPTH + 1 - i, i ? i - 1 : 0};
+        const uint32_t form[] = {8, OPENING * i, (OPENING + 1) * DEPTH + 9 - i, 1, 2 * (DEPTH - i) + 1, i ? 2 * i - 2 : 0};
+        const uint32_t name[] = {9, OPENING * i + 1, OPENING * i + 8, 0, 1, 2 * i};
+        memcpy(rows[i], array, sizeof array);
+        memcpy(schema_rows[2 * i], form, sizeof form);
+        memcpy(schema_rows[2 * i + 1], name, sizeof name);
+        document[length++] = '[';
+        schema_length += (size_t)sprintf(schema + schema_length, "{\"Array\":");
+        says.path[i] = DEPTH - i;
+    }
+    const uint32_t string[] = {6, DEPTH, DEPTH + 2, 0, 1, DEPTH - 1};
+    const uint32_t type[] = {6, OPENING * DEPTH, OPENING * DEPTH + 9, 0, 1, 2 * DEPTH - 2};
+    memcpy(rows[DEPTH], string, sizeof string);
+    memcpy(schema_rows[2 * DEPTH], type, sizeof type);
+    length += (size_t)sprintf(document + length, "\"\"");
+    memset(document + length, ']', DEPTH);
+    schema_length += (size_t)sprintf(schema + schema_length, "\"Integer\"");
+    memset(schema + schema_length, '}', DEPTH);
+    const struct text deep = {document, rows[0], sizeof rows / sizeof rows[0][0]};
+    const struct text arrays = {schema, schema_rows[0], sizeof schema_rows / sizeof rows[0][0]};
+    const struct pair pair = {teleport_check, {&deep, &arrays}, {20, 1, DEPTH, OPENING * DEPTH}};
+    says.pair = pair;
+    says.steps = DEPTH + 1;
+    path_pair(&says);
+}
+
 /* Compact: buffers and tables of every small length. */
 
 struct writing {
@@ -435,14 +543,14 @@ struct writing {
 };
 
 static const struct writing writings[] = {
-    {{"{\"a\":[1,true]}", WORDS(8,0,14,1,5, 9,1,4,0,1, 7,5,13,2,3, 4,6,7,0,1, 3,8,12,0,1)}, "{\"a\":[1,true]}", {0}},
-    {{" { \"b\" : [ 1.0 , true ] , \"a\" : \"\\/\" } ", WORDS(8,1,38,2,7, 9,3,6,0,1, 7,9,23,2,3, 5,11,14,0,1, 3,17,21,0,1,
-        9,26,29,0,1, 6,32,36,0,1)}, "{\"b\":[1.0,true],\"a\":\"/\"}", {0}},
-    {{"{\"\\u0062\":null,\"a\" : false}", WORDS(8,0,27,2,5, 9,1,9,0,1, 1,10,14,0,1, 9,15,18,0,1, 2,21,26,0,1)},
+    {{"{\"a\":[1,true]}", WORDS(8,0,14,1,5,0, 9,1,4,0,1,0, 7,5,13,2,3,0, 4,6,7,0,1,2, 3,8,12,0,1,2)}, "{\"a\":[1,true]}", {0}},
+    {{" { \"b\" : [ 1.0 , true ] , \"a\" : \"\\/\" } ", WORDS(8,1,38,2,7,0, 9,3,6,0,1,0, 7,9,23,2,3,0, 5,11,14,0,1,2, 3,17,21,0,1,2,
+        9,26,29,0,1,0, 6,32,36,0,1,0)}, "{\"b\":[1.0,true],\"a\":\"/\"}", {0}},
+    {{"{\"\\u0062\":null,\"a\" : false}", WORDS(8,0,27,2,5,0, 9,1,9,0,1,0, 1,10,14,0,1,0, 9,15,18,0,1,0, 2,21,26,0,1,0)},
         "{\"b\":null,\"a\":false}", {0}},
-    {{"\"\\u001F\\u000a\\u0022\\u005C\\b\x7f\"", WORDS(6,0,29,0,1)}, "\"\\u001f\\n\\\"\\\\\\b\x7f\"", {0}},
-    {{"[ \"\\uD83d\\ude00\\u00E9\\u20ac\" ]", WORDS(7,0,30,1,2, 6,2,28,0,1)}, "[\"\xf0\x9f\x98\x80\xc3\xa9\xe2\x82\xac\"]", {0}},
-    {{"-0.5e+3 ", WORDS(5,0,7,0,1)}, "-0.5e+3", {0}},
+    {{"\"\\u001F\\u000a\\u0022\\u005C\\b\x7f\"", WORDS(6,0,29,0,1,0)}, "\"\\u001f\\n\\\"\\\\\\b\x7f\"", {0}},
+    {{"[ \"\\uD83d\\ude00\\u00E9\\u20ac\" ]", WORDS(7,0,30,1,2,0, 6,2,28,0,1,0)}, "[\"\xf0\x9f\x98\x80\xc3\xa9\xe2\x82\xac\"]", {0}},
+    {{"-0.5e+3 ", WORDS(5,0,7,0,1,0)}, "-0.5e+3", {0}},
     {{"", NULL, 0}, "", {2, 1, 0, 0}},
     {{"[1,]", NULL, 0}, "", {3, 1, 3, 0}},
     {{"{\"a\":1,\"\\u0061\":2}", NULL, 0}, "", {6, 1, 14, 0}},
@@ -540,7 +648,7 @@ static void exhibit_pair(const struct pair *pair) {
         exhibit_with(pair, roomy, rooms[i], AT_END);
     }
     buffer_area = whole_area;
-    for (size_t words = 0; words <= 60; words++) {
+    for (size_t words = 0; words <= SMALL; words++) {
         const size_t lengths[3][2] = {{words, words}, {words, ROOM}, {ROOM, words}};
         exhibit_with(pair, lengths[words % 3], LONGEST, words % 2 ? AT_START : AT_END);
     }
@@ -587,10 +695,14 @@ int main(void) {
     }
     answer_area = map_area(4 * sizeof(uint32_t));
     dates_area = map_area(DATES_WORDS * sizeof(uint32_t));
+    path_area = map_area(2 * TELEPORT_PATH_WORDS * sizeof(uint32_t));
+    steps_area = map_area(sizeof(uint32_t));
     buffer_area = map_area(ROOM);
     for (size_t i = 0; i < sizeof readings / sizeof *readings; i++) read_beginnings(&readings[i]);
     for (size_t i = 0; i < sizeof pairs / sizeof *pairs; i++) call_pair(&pairs[i], NULL);
     for (size_t i = 0; i < sizeof datings / sizeof *datings; i++) call_pair(&datings[i].pair, datings[i].dates);
+    for (size_t i = 0; i < sizeof pathings / sizeof *pathings; i++) path_pair(&pathings[i]);
+    path_deepest();
     for (size_t i = 0; i < sizeof writings / sizeof *writings; i++) compact_text(&writings[i]);
     exhibit_pairs();
     exhibit_longest();
