@@ -374,15 +374,16 @@ static const uint8_t *number_end(const uint8_t *p, const uint8_t *end, uint32_t 
     return p;
 }
 
-static void put(uint32_t *row, uint32_t kind, size_t first, size_t end) {
+static void put(uint32_t *row, uint32_t kind, size_t first, size_t end, uint32_t parent) {
     row[TELEPORT_ROW_KIND] = kind;
     row[TELEPORT_ROW_FIRST] = (uint32_t)first;
     row[TELEPORT_ROW_END] = (uint32_t)end;
     row[TELEPORT_ROW_CHILDREN] = 0;
     row[TELEPORT_ROW_SUBTREE] = 1;
+    row[TELEPORT_ROW_PARENT] = parent;
 }
 
-static const uint8_t *fill_leaf(const uint8_t *text, const uint8_t *end, const uint8_t *p, uint32_t *row) {
+static const uint8_t *fill_leaf(const uint8_t *text, const uint8_t *end, const uint8_t *p, uint32_t *row, uint32_t parent) {
     const uint8_t *first = p;
     uint32_t kind = TELEPORT_STRING;
     if (*p == '"') {
@@ -393,42 +394,47 @@ static const uint8_t *fill_leaf(const uint8_t *text, const uint8_t *end, const u
         kind = *p == 'n' ? TELEPORT_NULL : *p == 'f' ? TELEPORT_FALSE : TELEPORT_TRUE;
         p += 4 + (*p == 'f');
     }
-    put(row, kind, (size_t)(first - text), (size_t)(p - text));
+    put(row, kind, (size_t)(first - text), (size_t)(p - text), parent);
     return p;
 }
 
 /* A name, its colon and the space around it. */
-static const uint8_t *fill_name(const uint8_t *text, const uint8_t *p, uint32_t *row) {
+static const uint8_t *fill_name(const uint8_t *text, const uint8_t *p, uint32_t *row, uint32_t parent) {
     const uint8_t *behind = string_end(p);
-    put(row, TELEPORT_NAME, (size_t)(p - text), (size_t)(behind - text));
+    put(row, TELEPORT_NAME, (size_t)(p - text), (size_t)(behind - text), parent);
     return skip_judged(skip_judged(behind) + 1);
 }
 
-/* `in` is the row of the innermost bracket open, `open` has those around it. Outside of all stands a row of no table. */
-static void fill_value(const uint8_t *text, const uint8_t *end, uint32_t *row) {
-    uint32_t none[TELEPORT_ROW_WORDS] = { 0 }, *in = none, *open[TELEPORT_DOCUMENT_DEPTH], depth = 0;
+/*
+ * `in` is the row of the innermost bracket open and `parent` its number, `open` has the rows around it. Outside of all
+ * stands a row of no table, whose number is 0.
+ */
+static void fill_value(const uint8_t *text, const uint8_t *end, uint32_t *table) {
+    uint32_t none[TELEPORT_ROW_WORDS] = { 0 }, *row = table, *in = none, *open[TELEPORT_DOCUMENT_DEPTH], depth = 0, parent = 0;
     for (const uint8_t *p = skip_judged(text);;) {
         if (in[TELEPORT_ROW_KIND] == TELEPORT_OBJECT) {
-            p = fill_name(text, p, row);
+            p = fill_name(text, p, row, parent);
             row += TELEPORT_ROW_WORDS;
         }
         in[TELEPORT_ROW_CHILDREN]++;
         if (*p == '[' || *p == '{') {
             uint8_t closing = *p == '{' ? '}' : ']';
-            put(row, *p == '{' ? TELEPORT_OBJECT : TELEPORT_ARRAY, (size_t)(p - text), 0);
+            put(row, *p == '{' ? TELEPORT_OBJECT : TELEPORT_ARRAY, (size_t)(p - text), 0, parent);
             open[depth++] = in;
             in = row;
+            parent = (uint32_t)((row - table) / TELEPORT_ROW_WORDS);
             row += TELEPORT_ROW_WORDS;
             p = skip_judged(p + 1);
             if (*p != closing) continue;
         } else {
-            p = fill_leaf(text, end, p, row);
+            p = fill_leaf(text, end, p, row, parent);
             row += TELEPORT_ROW_WORDS;
         }
         for (; depth && *p != ','; p++) {
             if (*p <= ' ') continue;
             in[TELEPORT_ROW_END] = (uint32_t)(p + 1 - text);
             in[TELEPORT_ROW_SUBTREE] = (uint32_t)((row - in) / TELEPORT_ROW_WORDS);
+            parent = in[TELEPORT_ROW_PARENT];
             in = open[--depth];
         }
         if (!depth) return;

@@ -101,7 +101,7 @@ static void nest(struct text *text, const struct nesting *how, unsigned levels, 
 typedef void service(const uint8_t *, size_t, const uint8_t *, size_t, uint32_t *, size_t, uint32_t *, size_t, uint32_t *);
 
 struct call {
-    service *call; /* Check, with dates too, Compare, Compact or Counterexample; NULL is Read of the first text */
+    service *call; /* Check, with dates or the path too, Compare, Compact or Counterexample; NULL is Read of the first text */
     const struct text *texts[2];
     uint32_t answer[4];
     uintptr_t frame;
@@ -125,6 +125,15 @@ static int64_t dates[TELEPORT_DATES_NUMBERS];
 static void check_dates(const uint8_t *document, size_t document_length, const uint8_t *schema, size_t schema_length,
                         uint32_t *table1, size_t words1, uint32_t *table2, size_t words2, uint32_t *answer) {
     teleport_check_dates(document, document_length, schema, schema_length, table1, words1, table2, words2, answer, dates);
+}
+
+/* Check with the path, in the shape of the others: its list has the least room. */
+static uint32_t path[TELEPORT_PATH_WORDS], steps[1];
+
+static void check_path(const uint8_t *document, size_t document_length, const uint8_t *schema, size_t schema_length,
+                       uint32_t *table1, size_t words1, uint32_t *table2, size_t words2, uint32_t *answer) {
+    teleport_check_path(document, document_length, schema, schema_length, table1, words1, table2, words2,
+                        path, TELEPORT_PATH_WORDS, answer, steps);
 }
 
 /* Compare's sister, in the shape of the others: its buffer has the least room. */
@@ -175,18 +184,24 @@ enum { SHORT = 256, LONG = 65536, WIDE = 8 * 16384 };
 /* The fourth number, where it is free. */
 #define ANY UINT32_MAX
 
-/* Makes a call with the two texts, and begins new ones. */
-static void measure(const char *name, service *call, uint32_t code, uint32_t other, size_t more_than) {
+/* Makes a call with the two texts, of which the first does not fit at a place, and begins new ones. */
+static void measure_at(const char *name, service *call, uint32_t code, uint32_t place, uint32_t other, size_t more_than) {
     struct call c = {call, {&first, &second}, {0, 0, 0, 0}, 0};
     size_t used = stack_of(&c);
     printf("%s: %zu bytes of stack\n", name, used);
     /* Of the refusals only a bracket too many is tried, and it is the first of its kind. */
     const uint8_t *bracket = code == TELEPORT_TOO_DEEP ? memchr(first.bytes, '[', first.length) : NULL;
-    uint32_t answer[4] = {code, bracket != NULL, bracket ? (uint32_t)(bracket - first.bytes) : 0, other == ANY ? c.answer[3] : other};
+    int misfit = code == TELEPORT_WRONG_KIND || code == TELEPORT_MISSING || code == TELEPORT_NO_DATE;
+    uint32_t answer[4] = {code, bracket != NULL || misfit, bracket ? (uint32_t)(bracket - first.bytes) : place,
+                          other == ANY ? c.answer[3] : other};
     expect(memcmp(c.answer, answer, sizeof answer) == 0, "the answer", name);
     expect(used < TELEPORT_STACK_BYTES, "less stack than the header says", name);
     expect(used > more_than, "as much stack as it must need at least", name);
     first.length = second.length = 0;
+}
+
+static void measure(const char *name, service *call, uint32_t code, uint32_t other, size_t more_than) {
+    measure_at(name, call, code, 0, other, more_than);
 }
 
 /* The calls: working room goes by the length of a text, frames by its depth, and room for names by nested objects. */
@@ -249,6 +264,29 @@ static void measure_dates(void) {
     measure_dates_of("Check with dates, 24 arrays", 1, SHORT);
 }
 
+/* Paths of so many rows, the first being this one; where the schema says it is left open. */
+static void measure_path_of(const char *name, uint32_t code, uint32_t place, uint32_t row, uint32_t count, size_t more_than) {
+    measure_at(name, check_path, code, place, ANY, more_than);
+    expect(steps[0] == count && path[0] == row && path[count - 1] == 0, "the path", name);
+}
+
+static void measure_path(void) {
+    put(&first, "1");
+    put(&second, "\"String\"");
+    measure_path_of("Check with the path, short texts", 20, 0, 0, 1, SHORT);
+    wrap(&first, "[", "", "]", TELEPORT_DOCUMENT_DEPTH);
+    wrap(&second, "{\"Array\":", "\"Float\"", "}", 24);
+    measure_path_of("Check with the path, 32 brackets under 24 arrays", 20, 24, 24, 25, SHORT);
+    open_nest(&first, &objects, 8, MANY);
+    uint32_t place = (uint32_t)first.length;
+    put(&first, "{}");
+    repeat(&first, objects.close, 8);
+    pad(&first, LONG);
+    nest(&second, &required, 8, MANY, "\"DateTime\"");
+    pad(&second, LONG_SCHEMA);
+    measure_path_of("Check with the path, longest texts, 8 objects of 40 required names", 20, place, 8 * 2 * MANY, 9, WIDE);
+}
+
 /* A definition with many names in both parts. */
 static void put_definition(struct text *text) {
     put(text, "{\"Object\":{\"required\":{");
@@ -269,6 +307,7 @@ static void measure_longest_schema(const char *name, service *call) {
 static void measure_schema(void) {
     measure_longest_schema("Check by Schema, 65,536 bytes, 10 definitions of 40 names", teleport_check);
     measure_longest_schema("Check with dates by Schema, 65,536 bytes, 10 definitions of 40 names", check_dates);
+    measure_longest_schema("Check with the path by Schema, 65,536 bytes, 10 definitions of 40 names", check_path);
     wrap(&first, "{\"Map\":", "\"JSON\"", "}", 32);
     put(&second, "\"Schema\"");
     measure("Check by Schema, 32 maps", teleport_check, 0, 0, SHORT);
@@ -347,6 +386,7 @@ int main(void) {
     measure_compact();
     measure_check();
     measure_dates();
+    measure_path();
     measure_schema();
     measure_compare();
     measure_counterexample();
