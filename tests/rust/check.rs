@@ -4,9 +4,9 @@ use crate::dates::moment;
 use crate::definitions::{fields, find, is_definition, take_schema};
 use crate::read::{self, Answer, Expected, Node, Reading};
 
-const WRONG_KIND: u32 = 20;
-const MISSING: u32 = 21;
-const NO_DATE: u32 = 22;
+pub const WRONG_KIND: u32 = 20;
+pub const MISSING: u32 = 21;
+pub const NO_DATE: u32 = 22;
 
 /// How many values were judged as DateTime, their earliest and their latest moment; all 0 where there were none.
 pub type Dates = [i64; 3];

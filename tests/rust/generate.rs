@@ -1,6 +1,7 @@
 //! Random texts and lengths of tables. The same seed gives the same ones.
 
 use crate::pairs::schema;
+use crate::path::LEAST_LIST;
 use crate::read::{DOCUMENT, ROW_WORDS};
 
 /// A xorshift generator.
@@ -52,10 +53,20 @@ impl Chance {
 pub fn table_length(rows: usize, number: u64, often_small: bool, chance: &mut Chance) -> usize {
     let needed = rows * ROW_WORDS;
     match chance.below(if often_small { 12 } else { 40 }) {
-        0 | 1 => (number % 17) as usize,
-        2 => needed.saturating_sub(chance.between(1, 5)),
-        3 => needed + chance.between(5, 60),
-        _ => needed + chance.below(5),
+        0 | 1 => (number % 19) as usize,
+        2 => needed.saturating_sub(chance.between(1, ROW_WORDS)),
+        3 => needed + chance.between(ROW_WORDS, 60),
+        _ => needed + chance.below(ROW_WORDS),
+    }
+}
+
+/// The least words of a list for a path, each small length in turn, or more.
+pub fn list_length(number: u64, chance: &mut Chance) -> usize {
+    match chance.below(8) {
+        0 => (number % 41) as usize,
+        1 => LEAST_LIST - 1,
+        2 => LEAST_LIST + chance.between(1, 60),
+        _ => LEAST_LIST,
     }
 }
 

@@ -1,4 +1,4 @@
-//! Holds the library to a model of Read, Check, with dates too, and Compare.
+//! Holds the library to a model of Read, Check, with dates and the path too, and Compare.
 //!
 //!     rustc -O --edition 2021 main.rs -L DIRECTORY -l static=teleport -o outside
 //!     ./outside [COUNT [SEED]]
@@ -12,6 +12,7 @@ mod definitions;
 mod generate;
 mod library;
 mod pairs;
+mod path;
 mod read;
 
 use check::Dates;
@@ -62,12 +63,13 @@ fn arguments() -> Option<(u64, u64)> {
     given.next().is_none().then_some(numbers)
 }
 
-/// Of 20 cases 12 are Read, 5 Check, 3 of them with dates, and 3 Compare.
+/// Of 20 cases 10 are Read, 7 Check, 2 of them with dates and 3 with the path, and 3 Compare.
 fn service_of(number: u64) -> Service {
     match number % 20 {
-        0..=11 => Service::Read,
-        12..=13 => Service::Check,
-        14..=16 => Service::Dates,
+        0..=9 => Service::Read,
+        10..=11 => Service::Check,
+        12..=13 => Service::Dates,
+        14..=16 => Service::Path,
         _ => Service::Compare,
     }
 }
@@ -77,25 +79,28 @@ fn name(service: Service) -> &'static str {
         Service::Read => "Read",
         Service::Check => "Check",
         Service::Dates => "Check with dates",
+        Service::Path => "Check with the path",
         Service::Compare => "Compare",
     }
 }
 
-/// The texts of one call, the lengths of the tables, and what the model expects.
+/// The texts of one call, the lengths of the tables and of the list for the path, and what the model expects.
 struct Case {
     service: Service,
     texts: Vec<Vec<u8>>,
     readings: Vec<Reading>,
     words: [usize; 2],
+    list: Option<usize>,
     expected: Expected,
     dates: Dates,
+    path: Vec<u32>,
 }
 
 impl Case {
     fn new(service: Service, number: u64, chance: &mut Chance) -> Case {
         let (texts, limits) = match service {
             Service::Read => (vec![generate::text(chance)], [DOCUMENT, DOCUMENT]),
-            Service::Check | Service::Dates => (pairs::check_pair(chance), [DOCUMENT, SCHEMA]),
+            Service::Check | Service::Dates | Service::Path => (pairs::check_pair(chance), [DOCUMENT, SCHEMA]),
             Service::Compare => (pairs::schema_pair(chance), [SCHEMA, SCHEMA]),
         };
         let readings: Vec<Reading> =
@@ -104,31 +109,47 @@ impl Case {
         for (length, reading) in words.iter_mut().zip(&readings) {
             *length = generate::table_length(reading.rows.len(), number, service == Service::Read, chance);
         }
-        let (expected, dates) = match service {
-            Service::Read => (read::read(&readings[0], words[0]), [0; 3]),
-            Service::Check => (check::check(&readings[0], &readings[1], words).0, [0; 3]),
-            Service::Dates => check::check(&readings[0], &readings[1], words),
-            Service::Compare => (compare::compare(&readings[0], &readings[1], words), [0; 3]),
+        let list = (service == Service::Path).then(|| generate::list_length(number, chance));
+        let (mut dates, mut path) = ([0; 3], Vec::new());
+        let expected = match service {
+            Service::Read => read::read(&readings[0], words[0]),
+            Service::Check => check::check(&readings[0], &readings[1], words).0,
+            Service::Dates => {
+                let (expected, found) = check::check(&readings[0], &readings[1], words);
+                dates = found;
+                expected
+            }
+            Service::Path => {
+                let (expected, found) = path::check_path(&readings[0], &readings[1], words, list.unwrap_or(0));
+                path = found;
+                expected
+            }
+            Service::Compare => compare::compare(&readings[0], &readings[1], words),
         };
-        Case { service, texts, readings, words, expected, dates }
+        Case { service, texts, readings, words, list, expected, dates, path }
     }
 
     /// Calls the library; the second is the first difference.
     fn run(&self, chance: &mut Chance) -> (Found, Option<String>) {
-        let mut tables: Vec<Words> =
-            self.words.iter().take(self.texts.len()).map(|length| Words::new(*length, chance)).collect();
+        let lengths = self.words.iter().take(self.texts.len()).chain(&self.list);
+        let mut tables: Vec<Words> = lengths.map(|length| Words::new(*length, chance)).collect();
         let found = library::call(self.service, &self.texts, &mut tables, chance);
-        for (number, table) in tables.iter_mut().enumerate() {
-            if self.expected.written[number] {
-                table.want_rows(&self.readings[number].rows);
+        for ((table, reading), written) in tables.iter_mut().zip(&self.readings).zip(self.expected.written) {
+            if written {
+                table.want_rows(&reading.rows);
             }
+        }
+        if self.list.is_some() {
+            tables[2].want_path(&self.path);
         }
         let difference = if found.answer != self.expected.answer {
             Some("the answers differ".to_string())
         } else if found.dates != self.dates {
             Some(format!("the dates are {:?}, wanted {:?}", found.dates, self.dates))
+        } else if found.steps as usize != self.path.len() {
+            Some(format!("there are {} steps, wanted {}", found.steps, self.path.len()))
         } else if !found.guards_held {
-            Some("a text or a guard of the answer or the dates was written".to_string())
+            Some("a text or a guard of the answer, the dates or the steps was written".to_string())
         } else {
             tables.iter().find_map(Words::difference)
         };
@@ -141,13 +162,16 @@ impl Case {
             let hex: String = text.iter().map(|byte| format!("{byte:02x}")).collect();
             println!("text {hex}, table of {words} words");
         }
+        if let Some(words) = self.list {
+            println!("list of {words} words");
+        }
         println!("library {:?}", found.answer);
         println!("model   {:?}", self.expected.answer);
     }
 }
 
 fn print_seen(seen: &Seen) {
-    for service in [Service::Read, Service::Check, Service::Dates, Service::Compare].map(name) {
+    for service in [Service::Read, Service::Check, Service::Dates, Service::Path, Service::Compare].map(name) {
         let codes: Vec<String> = seen
             .iter()
             .filter(|((of, _), _)| *of == service)

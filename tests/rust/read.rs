@@ -21,7 +21,7 @@ pub const NAME_TWICE: u32 = 6;
 pub const TOO_DEEP: u32 = 7;
 pub const NO_ROOM: u32 = 8;
 
-pub const ROW_WORDS: usize = 5;
+pub const ROW_WORDS: usize = 6;
 
 pub type Row = [u32; ROW_WORDS];
 pub type Answer = [u32; 4];
@@ -77,7 +77,7 @@ pub fn reading(text: &[u8], limits: Limits) -> Reading {
         let fault = Fault { code: TOO_LONG, place: limits.bytes as u32 };
         return Reading { tree: Err(fault), rows: Vec::new() };
     }
-    let mut reader = Reader { text, place: 0, depth_left: limits.depth, rows: Vec::new() };
+    let mut reader = Reader { text, place: 0, depth_left: limits.depth, rows: Vec::new(), open: Vec::new() };
     let tree = reader.read_text();
     let rows = if tree.is_ok() { reader.rows } else { Vec::new() };
     Reading { tree, rows }
@@ -105,6 +105,8 @@ struct Reader<'a> {
     place: usize,
     depth_left: usize,
     rows: Vec<Row>,
+    /// The rows of the brackets that are open.
+    open: Vec<u32>,
 }
 
 impl Reader<'_> {
@@ -151,8 +153,9 @@ impl Reader<'_> {
         }
     }
 
+    /// The sixth word is the row of the innermost bracket; outside of all it is 0.
     fn open_row(&mut self, kind: u32) -> usize {
-        self.rows.push([kind, self.place as u32, 0, 0, 0]);
+        self.rows.push([kind, self.place as u32, 0, 0, 0, *self.open.last().unwrap_or(&0)]);
         self.rows.len() - 1
     }
 
@@ -232,11 +235,12 @@ impl Reader<'_> {
     }
 
     /// One bracket more than the depth is too deep, at that bracket.
-    fn open_bracket(&mut self) -> Result<(), Fault> {
+    fn open_bracket(&mut self, row: usize) -> Result<(), Fault> {
         if self.depth_left == 0 {
             return self.refuse(TOO_DEEP);
         }
         self.depth_left -= 1;
+        self.open.push(row as u32);
         self.place += 1;
         self.skip_space();
         Ok(())
@@ -244,12 +248,13 @@ impl Reader<'_> {
 
     fn close_bracket(&mut self) {
         self.depth_left += 1;
+        self.open.pop();
         self.place += 1;
     }
 
     fn read_array(&mut self) -> Result<Node, Fault> {
         let row = self.open_row(ARRAY);
-        self.open_bracket()?;
+        self.open_bracket(row)?;
         let mut elements = Vec::new();
         while self.byte()? != b']' {
             self.pass_comma(elements.len())?;
@@ -263,7 +268,7 @@ impl Reader<'_> {
 
     fn read_object(&mut self) -> Result<Node, Fault> {
         let row = self.open_row(OBJECT);
-        self.open_bracket()?;
+        self.open_bracket(row)?;
         let mut members = Vec::new();
         let mut names = HashSet::new();
         while self.byte()? != b'}' {
