@@ -19,8 +19,10 @@ import tempfile
 import edge_cases_compact
 import edge_cases_counterexample
 import edge_cases_dates
+import edge_cases_path
 import generate
 import generate_failing
+import generate_misfits
 import generate_pairs
 import generate_spellings
 import harness
@@ -30,6 +32,7 @@ from model_compact import compact, spelling
 from model_compare import NOT_CARRIED
 from model_counterexample import LEAST_BUFFER, counterexample
 from model_dates import NUMBERS, check_dates
+from model_explain import SHOWN as LINE_BYTES, explained
 from program_test import (BROKEN, DOCUMENTS, Folder, GENERATED, JSON, LONG, NO_FILE, SCHEMAS, absent_names, bound_user, line_of,
                           ones, padded_name, spaced)
 
@@ -321,17 +324,21 @@ def dated(tools, document, schema, **options):
     return tools.holds(["dates", tools.write("document", document), tools.write("schema", schema)], line, **options)
 
 
-def dates_argument_results(tools):
-    """Another number of files; a word that is no command; a file that cannot be opened, before any code."""
+def command_of_two_results(tools, command, words):
+    """Another number of files; words that are no command; a file that cannot be opened, before any code."""
     files = [tools.file(SAILINGS), tools.file(CREW)]
     for count in [0, 1, 3, 4]:
-        yield tools.holds(["dates", *(files * 2)[:count]], NO_FILE)
-    for word in ["date", "datess", "Dates", "DATES", "dates ", "-dates"]:
+        yield tools.holds([command, *(files * 2)[:count]], NO_FILE)
+    for word in words:
         yield tools.holds([word, *files], NO_FILE)
     for name in ["nothing", "", "folder", "link-to-nothing", "x" * 256, "x" * 100000]:
         for other in [*files, tools.file(BROKEN), name]:
-            yield tools.holds(["dates", name, other], NO_FILE)
-            yield tools.holds(["dates", other, name], NO_FILE)
+            yield tools.holds([command, name, other], NO_FILE)
+            yield tools.holds([command, other, name], NO_FILE)
+
+
+def dates_argument_results(tools):
+    return command_of_two_results(tools, "dates", ["date", "datess", "Dates", "DATES", "dates ", "-dates"])
 
 
 def dates_results(tools):
@@ -348,6 +355,86 @@ def dates_results(tools):
         yield dated(tools, *pair)
 
 
+# Explain: nothing is written.
+
+EXPLAINED = [
+    (b"1", b'"String"', """20 1 0 0
+
+1
+^ document, line 1: this value is of the wrong kind
+"String"
+^ schema, line 1: the definition"""),
+    (b'{\n\t"a/b": [1, {"~": null}],\r\n\t"\\u00e9\\"": "\xc3\xa9", "d": [true,\t[ "x" ]]}',
+     b'{"Object": {\r"required": {"d": {"Array": "JSON"}},\r\n\n  "optional": {"\xc3\xa9\\"": "Float"}}}', """20 1 42 76
+/\u00e9"
+\t"\\u00e9\\"": "\u00e9", "d": [true,\t[ "x" ]]}
+\t            ^ document, line 3: this value is of the wrong kind
+  "optional": {"\u00e9\\"": "Float"}}}
+                      ^ schema, line 4: the definition"""),
+    (b'[{"a~/":\t{ "\xe2\x82\xac\xf0\x9f\x98\x80": [\t"x"] } }]', b'{"Array": {"Map": {"Map": {"Array": "Integer"}}}}', """20 1 24 36
+/0/a~0~1/\u20ac\U0001f600/0
+[{"a~/":\t{ "\u20ac\U0001f600": [\t"x"] } }]
+        \t         \t^ document, line 1: this value is of the wrong kind
+{"Array": {"Map": {"Map": {"Array": "Integer"}}}}
+                                    ^ schema, line 1: the definition"""),
+    (b"[" + b'{"a":1}, ' * 10 + b'{"b": "' + b"\xc3\xb8" * 40 + b'"}]', b'{"Array":{"Object":{"required":{"a":"Integer"}}}}',
+     "21 1 91 32\n/10\n..." + '":1}, ' + '{"a":1}, ' * 6 + '{"b": "' + "\u00f8" * 26 + "...\n"
+     + " " * 63 + """^ document, line 1: this object lacks a required name
+{"Array":{"Object":{"required":{"a":"Integer"}}}}
+                                ^ schema, line 1: the required name"""),
+    (b'["2024-04-30T08:00:00Z",\r\n"2024-04-31T08:00:00Z"\r\n]', b'\r\n{"Array"\r:\n"DateTime"}', """22 1 26 13
+/1
+"2024-04-31T08:00:00Z"
+^ document, line 2: this string is no date
+"DateTime"}
+^ schema, line 4: the definition"""),
+    (b'[[],[1,\n{"a~/":\t{ "\xc3\xb8": 1,\t"b": []}}]]', b'{"Array": {"Array": "JSON"}}', "0 0 0 0"),
+    (SAILINGS, b'{"Array":"Date"}', "11 2 9 0"),
+    (SAILINGS[:-1], CREW, "2 1 123 0"),
+]
+
+
+def explanation(tools, document, schema, **options):
+    """Of a document and a schema the model's lines."""
+    return tools.holds(["explain", tools.write("document", document), tools.write("schema", schema)], explained(document, schema), **options)
+
+
+def explain_argument_results(tools):
+    return command_of_two_results(tools, "explain", ["explai", "explains", "Explain", "EXPLAIN", "explain ", "-explain"])
+
+
+def cut_line_pairs():
+    """Lines of every length about that where they are cut, before and behind the place, with characters of one to four bytes
+    at the cut; lines that end in each way."""
+    schema = b'{"Array":\n{"Map":"Integer"}}'
+    for character in ["x", "\u00e9", "\u20ac", "\U0001f600"]:
+        for count in range(LINE_BYTES - 8, LINE_BYTES + 9):
+            piece = (character * count).encode()[:count].decode(errors="ignore")
+            filled = piece.encode() + b"y" * (count - len(piece.encode()))
+            for before in [b"", b"\n", b"\t\r", b"\r\n"]:
+                yield b"[" + before + b'{"' + filled + b'":[' + before + b"]}]", schema
+                yield b"[" + before + b'{"a":"' + filled + b'"' + before + b"}]", schema
+                yield b'{"' + filled + b'":0}', b"{" + before + b'"Object":{"required":{"' + filled + b'":"Boolean"' + before + b"}}}"
+                yield b'["' + filled + b'",' + before + b'{"a":null}]', b'{"Array":{"Object":{"required":{"' + filled + b'":"JSON"}}}}'
+
+
+def explain_results(tools):
+    """Stated lines; refusals, with room for every text; the cases; lines that are cut; generated pairs."""
+    for document, schema, lines in EXPLAINED:
+        yield "the model explains %r" % document, explained(document, schema) == lines
+        yield tools.holds(["explain", tools.file(document), tools.file(schema)], lines)
+    for text, refusal in DOCUMENTS:
+        yield tools.holds(["explain", tools.file(text), tools.file(JSON)], "0 0 0 0" if with_room(refusal) else refusal)
+    for text, refusal in SCHEMAS:
+        yield tools.holds(["explain", tools.file(b"{}"), tools.file(text)], "0 0 0 0" if with_room(refusal) else refusal % 2)
+    for document, schema, *_ in edge_cases_path.CASES:
+        yield explanation(tools, document, schema)
+    for pair in cut_line_pairs():
+        yield explanation(tools, *pair)
+    for pair in itertools.islice(generate_misfits.path_pairs(harness.DEFAULT_SEED), 2 * GENERATED):
+        yield explanation(tools, *pair)
+
+
 def keep_stack_small():
     resource.setrlimit(resource.RLIMIT_STACK, (STACK, STACK))
 
@@ -358,6 +445,8 @@ def stack_results(tools):
     text = ones(32767)
     yield tools.holds(["compact", tools.file(text), "out"], line_of((0, 0, 0, len(text))), {"out": text}, **options)
     yield dated(tools, text, spaced(b'{"Array":"Integer"}', model.SCHEMA_LIMIT), **options)
+    yield explanation(tools, ones(32765)[:-1] + b',""]', spaced(b'{"Array":"Integer"}', model.SCHEMA_LIMIT), **options)
+    yield explanation(tools, spaced(b"[" * 32 + b"]" * 32, model.DOCUMENT_LIMIT), b'{"Array":' * 24 + b'"Float"' + b"}" * 24, **options)
     for pair in itertools.islice(generate_failing.KINDS["16,384 bytes"](random.Random(harness.DEFAULT_SEED)), 4):
         yield shown(tools, *pair, **options)
 
@@ -376,7 +465,8 @@ def twice_results(tools):
 def results(tools):
     groups = [argument_results, input_results, refusal_results, schema_results, output_results, same_results, rights_results,
               no_output_results, rights_of_output_results, cut_results, length_results, generated_results,
-              counterexample_results, dates_argument_results, dates_results, stack_results, twice_results]
+              counterexample_results, dates_argument_results, dates_results, explain_argument_results, explain_results,
+              stack_results, twice_results]
     return itertools.chain.from_iterable(group(tools) for group in groups)
 
 
