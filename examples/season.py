@@ -3,7 +3,7 @@
 
     season.py SEASON SCHEMA [LIBRARY]
 
-LIBRARY is the shared library, target/lib/libteleport.so unless given.
+LIBRARY is the shared library, target/lib/libteleport.so.2 unless given.
 Ends with 0 where the file meets the schema, 1 where it does not, 2 where a file or the library cannot be opened.
 """
 
@@ -11,8 +11,8 @@ import ctypes
 import pathlib
 import sys
 
-LIBRARY = pathlib.Path(__file__).resolve().parent.parent / "target" / "lib" / "libteleport.so"
-TABLE_WORDS = 5 * 65536  # a text has at most as many rows as bytes
+LIBRARY = pathlib.Path(__file__).resolve().parent.parent / "target" / "lib" / "libteleport.so.2"
+TABLE_WORDS = 6 * 65536  # a text has at most as many rows as bytes
 
 MEANINGS = {
     1: "the text is too long",

@@ -18,6 +18,7 @@ import tempfile
 
 ROOT = pathlib.Path(__file__).resolve().parent.parent
 PREFIX = "/usr/local"
+NOT_STARTED = 127   # the status of a program whose libraries are not found or not taken
 
 # For each example its file, a line that it has, how the command that builds it begins, and what starts it.
 EXAMPLES = [
@@ -53,9 +54,9 @@ def block_with(text, mark):
 
 
 def commands(text):
-    """Each command behind a `$`, with the lines that it prints."""
+    """Each command behind a `$`, with the lines that it prints, of which none is empty."""
     shown = "\n".join(block for block, _ in blocks(text))
-    return re.findall(r"(?m)^\$ (.*)\n((?:(?!\$ )\S.*\n)*)", shown)
+    return re.findall(r"(?m)^\$ (.*)\n((?:(?!\$ ).+\n)*)", shown)
 
 
 def run(command, folder=ROOT, **options):
@@ -99,8 +100,43 @@ def installed_runs(prefix):
         yield f"the page of {name} is installed", page.exists(), True
 
 
+def environment_of(prefix):
+    """That of a program which is compiled with what is installed, and loads it."""
+    return dict(os.environ, PKG_CONFIG_PATH=str(prefix / "lib" / "pkgconfig"), LD_LIBRARY_PATH=str(prefix / "lib"))
+
+
+def version_run(prefix):
+    """The version that pkg-config gives is that of the header."""
+    header = (prefix / "include" / "teleport.h").read_text()
+    found = run("pkg-config --modversion teleport", env=environment_of(prefix))
+    return "the version of the library", found, (search(r'#define TELEPORT_VERSION "(.*)"', header) + "\n", 0)
+
+
+def needed(program, folder):
+    """The names of the shared libraries that a program asks for at its start."""
+    return re.findall(r"\(NEEDED\).*\[(.*)\]", run(f"readelf -d {program}", folder)[0])
+
+
+# A library of the name that a linker looks for, without a name of its own, and a program that calls it.
+OLD_LIBRARY = "void teleport_read(void) {}"
+OLD_PROGRAM = "void teleport_read(void); int main(void) { teleport_read(); return 0; }"
+
+
+def loader_runs(folder, prefix):
+    """The C example asks for the library by its name; a program that was linked to another library, called as the file that the
+    linker looks for, starts with that one and does not start with what is installed."""
+    yield "what the example in C asks for", [name for name in needed("a.out", folder) if "teleport" in name], ["libteleport.so.2"]
+    (folder / "old.c").write_text(OLD_LIBRARY)
+    (folder / "main.c").write_text(OLD_PROGRAM)
+    built = run("mkdir old && cc -shared -fPIC old.c -o old/libteleport.so && cc main.c -Lold -lteleport -o main", folder)
+    yield "a program for another library is built", built, ("", 0)
+    yield "what it asks for", [name for name in needed("main", folder) if "teleport" in name], ["libteleport.so"]
+    yield "it starts with that library", run("./main", folder, env=dict(os.environ, LD_LIBRARY_PATH=str(folder / "old"))), ("", 0)
+    yield "it does not start with this one", run("./main", folder, env=environment_of(prefix))[1], NOT_STARTED
+
+
 def example_runs(text, folder, prefix):
-    environment = dict(os.environ, PKG_CONFIG_PATH=str(prefix / "lib" / "pkgconfig"), LD_LIBRARY_PATH=str(prefix / "lib"))
+    environment = environment_of(prefix)
     yield "the examples that are found", len(EXAMPLES), len(re.findall(r"(?m)^prints `", text))
     for name, mark, begins, start in EXAMPLES:
         source, behind = block_with(text, mark)
@@ -119,7 +155,9 @@ def runs(text, folder):
         yield from command_runs(text)
         yield install_run(text, prefix)
         yield from installed_runs(prefix)
+        yield version_run(prefix)
         yield from example_runs(text, examples, prefix)
+        yield from loader_runs(examples, prefix)
     except Missing as missing:
         yield f"README.md has {missing}", False, True
 
