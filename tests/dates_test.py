@@ -35,7 +35,7 @@ DAYS = 366 + date.max.toordinal()   # of those years; Python's date begins with 
 
 CODES = {*range(MEETS, model.NO_ROOM + 1), *range(NO_DEFINITION, NAME_SHARED + 1), *range(WRONG_KIND, NO_DATE + 1)}
 LEAST_DATED = 1000                  # pairs with two dates or more, of which too few would show nothing
-BESIDE = (harness.Numbers, NUMBERS) # stands beside the answer
+BESIDE = (harness.Numbers, NUMBERS)  # stands beside the answer
 
 # Schemas of one date and of a list, and room for the longest list.
 ONE, LIST = b'"DateTime"', b'{"Array":"DateTime"}'
