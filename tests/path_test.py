@@ -30,7 +30,7 @@ DEFAULT_COUNT = 60000
 CODES = {*range(MEETS, model.NO_ROOM + 1), *range(NO_DEFINITION, NAME_SHARED + 1), *range(WRONG_KIND, NO_DATE + 1)}
 LONGEST_PATH = model.SCHEMA_DEPTH + 1   # steps: no definition stands in more brackets
 LENGTHS = range(41)                     # of lists, that are all tried
-ROWS_END = model.ROW_WORDS - 1          # the sixth word
+PARENT = model.ROW_WORDS - 1            # the sixth word
 
 SHAPE = (2, [harness.Words], (harness.Words, STEPS))
 
@@ -106,7 +106,7 @@ def follows(table, answer, path):
     code, _, place, _ = answer
     if code not in MISFITS:
         return path == []
-    inner = [table[model.ROW_WORDS * row + ROWS_END] for row in path[:-1]]
+    inner = [table[model.ROW_WORDS * row + PARENT] for row in path[:-1]]
     return path != [] and table[model.ROW_WORDS * path[0] + 1] == place and inner == path[1:] and path[-1] == 0
 
 
@@ -220,7 +220,7 @@ def under_the_name(document, schema, table1, table2, path, steps):
     for table, held in [(table1, answer[0] in (MEETS, *MISFITS)), (table2, answer[0] in (MEETS, *MISFITS))]:
         for number in range(1, table[4] if held else 0):
             if table[model.ROW_WORDS * (number - 1)] == model.NAME:
-                table[model.ROW_WORDS * number + ROWS_END] = number - 1
+                table[model.ROW_WORDS * number + PARENT] = number - 1
     return answer
 
 
@@ -229,7 +229,7 @@ def beside(document, schema, table1, table2, path, steps):
     answer = check_path(document, schema, table1, table2, path, steps)
     if answer[0] in (MEETS, *MISFITS):
         for number in range(1, table1[4]):
-            table1[model.ROW_WORDS * number + ROWS_END] = number - 1
+            table1[model.ROW_WORDS * number + PARENT] = number - 1
     return answer
 
 
