@@ -11,7 +11,7 @@ ghost use lib.ListN.{length};
 ghost use lib.Seq.{sets};
 ghost use Rattle.syntax.specs.Rows.{rowWords, entry, row as rowOf};
 ghost use Rattle.marks.specs.Marks.{markEntry};
-ghost use Rattle.marks.specs.Filling.{lastOpen, rowSize, markWords, Climbs};
+ghost use Rattle.marks.specs.Filling.{markWords, FillReady};
 
 // Writes a row.
 fn put(
@@ -68,32 +68,30 @@ fn put_mark(table: &mut [u32], row: usize, mark: u64, parent: usize) -> usize
     rows
 }
 
-// The row that row `row` stands in: the first from row `from` on, going from each to the one that it stands in, whose subtree holds it.
-fn enclosing(table: &[u32], row: usize, from: usize) -> usize
-    requires { ⌜ Climbs (now table) row from ⌝ }
-    ensures { λ r. ⌜ r ≡ lastOpen (rowSize (now (table .entry))) row row ⌝ }
-{
-    let mut at = from;
-    while at > 0 {
-        if row - at < word(table, at, 4) as usize {
-            return at;
-        }
-        at = word(table, at, 5) as usize;
-    }
-    0
-}
-
-// Writes the rows of the first marks.
-pub fn fill(marks: &[u64], table: &mut [u32], rows: usize)
-    requires { ⌜ (rows ≤ length (now marks)) × (rowWords * rows ≤ length (now table)) × (rows ≤ 65536) ⌝ }
+// Writes the rows of the first marks. `parent` is the array or object whose rows are being written, and `end` the row behind them. Once a row is
+// written its mark makes way for where to go on behind its subtree: in the nearest array or object around it that ends later.
+pub fn fill(marks: &mut [u64], table: &mut [u32], rows: usize)
+    requires { ⌜ FillReady (now marks) rows × (rowWords * rows ≤ length (now table)) ⌝ }
     ensures { λ _. ⌜ now (table .exit) ≡ sets (now (table .entry)) 0 (markWords (now (marks .entry)) rows) ⌝ }
 {
     let mut parent = 0;
+    let mut end = rows;
     let mut row = 0;
     while row < rows {
-        parent = enclosing(table, row, parent);
-        if put_mark(table, row, marks[row], parent) > 1 {
+        if row == end {
+            parent = marks[parent] as usize;
+            end = parent + word(table, parent, 4) as usize;
+        }
+        let inner = put_mark(table, row, marks[row], parent);
+        let last = row + inner;
+        let mut onward = parent as u64;
+        if last == end {
+            onward = marks[parent];
+        }
+        marks[row] = onward;
+        if inner > 1 {
             parent = row;
+            end = last;
         }
         row += 1;
     }

@@ -6,16 +6,16 @@ use native.Mathlib.Nat.{add-zero}
 use native.Mathlib.Numerals.{add-one}
 use native.Mathlib.Omega.{arith}
 use mathlib.Core.Bool.{cond}
-use lib.ListN.{length, getD, take, drop, set, length-append, List·getD-append}
-use lib.Seq.{sets, sets-eq, take-suc, length-take-le, length-sets, getD-take, getD-append-add}
-use lib.Dec.{ltb}
-use borrow.Author.Tests.{ltb-true, ltb-false, le-ltb}
+use lib.ListN.{length, getD, take, drop, set, length-append, length-set, List·getD-append}
+use lib.Seq.{sets, sets-eq, take-suc, length-take-le, length-sets, getD-take, getD-append-add, getD-set-same, getD-set-other}
+use lib.Dec.{ltb, eqb}
+use borrow.Author.Tests.{ltb-true, ltb-false, le-ltb, eqb-true, eqb-false}
 use Rattle.model.proofs.Basics.{both, by-test}
 use Rattle.syntax.specs.Rows.{Entry, rowWords, row, layOut}
 use Rattle.syntax.specs.Holding.{word}
 use Rattle.syntax.proofs.Facts.{noEntry, laid-length, laid-word}
 use Rattle.marks.specs.Marks.{markEntry, markEntries}
-use Rattle.marks.specs.Filling.{lastOpen, parentsTo, markSize, rowSize, markWords, Climbs}
+use Rattle.marks.specs.Filling.{lastOpen, parentsTo, markSize, markWords, FillReady}
 use Rattle.marks.proofs.marks.Laws.{entries-none, entries-cons, entries-append, marks-length, marks-at}
 
 pub sets-append : (xs ys l : List ℕ) (i : ℕ) → sets l i (xs ++ ys) ≡ sets (sets l i xs) (i + length xs) ys
@@ -53,40 +53,24 @@ module _ (rows : ℕ → ℕ) (i : ℕ) where
       let y : r ≡ 0 = by-test (ltb 0 r) (λ t. absurd (z (ltb-true 0 r t))) (λ t. omega (arith, ltb-false 0 r t)) in
       omega (arith, last-below k)))
 
+  -- it is open, or 0
+  pub last-open : (k : ℕ) → 0 < lastOpen rows i k → i < lastOpen rows i k + rows (lastOpen rows i k)
+  last-open zero l = absurd (omega arith)
+  last-open (suc k) l =
+      both (λ (r : ℕ). 0 < r → i < r + rows r) (ltb i (k + rows k)) (λ q _. ltb-true _ _ q) (λ _ g. last-open k g) l
+
+  -- rows that have ended are passed over
+  pub last-skip : (r k : ℕ) → r ≤ k → ((j : ℕ) → r ≤ j → j < k → j + rows j ≤ i) → lastOpen rows i k ≡ lastOpen rows i r
+  last-skip r zero l c = let e : r ≡ 0 = omega arith in rw e
+  last-skip r (suc k) l c =
+      by-test (ltb k r) (λ y. let e : r ≡ suc k = omega (arith, ltb-true k r y) in rw e)
+      (λ n. let g = ltb-false k r n in rw (le-ltb i (k + rows k) (c k g (omega arith))) (last-skip r k g (λ j a b. c j a (omega arith))))
+
 -- it goes by the rows below alone
 pub last-same : (g h : ℕ → ℕ) (i k : ℕ) → ((j : ℕ) → j < k → g j ≡ h j) → lastOpen g i k ≡ lastOpen h i k
 last-same g h i zero e = refl
 last-same g h i (suc k) e =
     ap₂ (λ (x y : ℕ). cond (ltb i (k + x)) k y) (e k (omega arith)) (last-same g h i k (λ j l. e j (omega arith)))
-
--- ---- going up from row to row
-
--- row `at` is below `row`, or 0, and those behind it end before `row`
-abbrev pub Climbing : List ℕ → ℕ → ℕ → Type 0
-Climbing t row at = (at ≤ row - 1) × ((j : ℕ) → at < j → j < row → j + rowSize t j ≤ row)
-
-module _ {t : List ℕ} {row from : ℕ} (c : Climbs t row from) {at : ℕ} (h : Climbing t row at) where
-  pub climb-found : row - at < rowSize t at → at ≡ lastOpen (rowSize t) row row
-  climb-found o = sym (last-is (rowSize t) row row at (h .0) (h .1) (λ z. omega arith))
-
-  pub climb-top : at ≤ 0 → 0 ≡ lastOpen (rowSize t) row row
-  climb-top z = let e : at ≡ 0 = omega arith in sym (last-is (rowSize t) row row at (h .0) (h .1) (λ p. absurd (omega arith)) ∙ e)
-
-  module _ {up : ℕ} (e : up ≡ word t at 5) (p : 0 < at) where
-    stands : up ≡ lastOpen (rowSize t) at at
-    stands = e ∙ c .parents at (omega arith)
-
-    pub climb-less : up < at
-    climb-less = omega (arith, stands, last-below (rowSize t) at at)
-
-    pub climb-up : rowSize t at ≤ row - at → Climbing t row up
-    climb-up o = (
-      omega (arith, climb-less),
-      λ j g l. by-test (ltb at j) (λ y. h .1 j (ltb-true at j y) l)
-          (λ n. by-test (ltb j at)
-          (λ y. omega (arith, last-closed (rowSize t) at at j (rw stands at g) (ltb-true j at y)))
-          (λ m. let q : j ≡ at = omega (arith, ltb-false at j n, ltb-false j at m) in rw q (omega arith))),
-    )
 
 -- ---- what rows stand in
 
@@ -138,25 +122,6 @@ module _ (ms : List ℕ) where
       rw add-one (ap (λ (xs : List Entry). layOut xs (parentsTo size (suc k))) e
       ∙ laid-add (markEntries (take k ms)) (parentsTo size k) (markEntry (getD ms k 0)) (lastOpen size k k) (as-many k (omega arith)))
 
-  -- row `parent` is below row k, or 0, and those behind it end before k
-  abbrev pub Passed : ℕ → ℕ → Type 0
-  Passed k parent = (parent ≤ k - 1) × ((j : ℕ) → parent < j → j < k → j + size j ≤ k)
-
-  pub passed-none : Passed 0 0
-  passed-none = (omega arith, λ j b c. absurd (omega arith))
-
-  -- row k has others in it
-  pub passed-list : (k : ℕ) → Passed (k + 1) k
-  passed-list k = (omega arith, λ j b c. absurd (omega arith))
-
-  -- row k has none
-  pub passed-leaf : (k : ℕ) {parent : ℕ} → parent ≡ lastOpen size k k → size k ≤ 1 → Passed (k + 1) parent
-  passed-leaf k {parent} e l = (
-    omega (arith, last-below size k k),
-    λ j b c. by-test (ltb j k) (λ y. omega (arith, last-closed size k k j (rw e at b) (ltb-true j k y)))
-        (λ n. let q : j ≡ k = omega (arith, ltb-false j k n) in rw q (omega arith)),
-  )
-
   -- the rows before k are stored in u
   abbrev pub Stored : List ℕ → List ℕ → ℕ → Type 0
   Stored t u k = u ≡ sets t 0 (markWords ms k)
@@ -182,22 +147,144 @@ module _ (ms : List ℕ) where
         (omega (arith, marks-length (take k ms), length-take-le k ms l)) h
         ∙ ap₂ (λ (y : Entry) (q : ℕ). getD (row y q) i 0) x (parents-at size k j g)
 
-    pub stored-size : (j : ℕ) → j < k → rowSize u j ≡ size j
+    pub stored-size : (j : ℕ) → j < k → word u j 4 ≡ size j
     stored-size j g = stored-word j 4 g (omega arith)
-
-    -- so that it can be gone up from a row behind which all have ended
-    pub stored-climbs : {from : ℕ} → Passed k from → Climbs u k from
-    stored-climbs h = record {
-      room = rw p (simp length-sets m);
-      below = h .0;
-      parents = λ j g. stored-word j 5 g (omega arith) ∙ last-same size (rowSize u) j j (λ i h. sym (stored-size i (omega arith)));
-      closed = λ j g b. omega (arith, stored-size j b, h .1 j g b);
-    }
-
-    -- what was found by the table's rows is what the marks say
-    pub stored-last : lastOpen (rowSize u) k k ≡ lastOpen size k k
-    stored-last = last-same (rowSize u) size k k stored-size
 
   -- the last of n was stored
   pub rows-stored : (t : List ℕ) {u : List ℕ} {k n : ℕ} → Stored t u k → k ≤ n → n ≤ k → Stored t u n
   rows-stored t {k = k} {n} p l m = let e : k ≡ n = omega arith in rw e at p
+
+-- ---- the row that is being filled
+
+module _ (ms : List ℕ) (rows : ℕ) where
+  -- behind the subtree of row j one goes on in the last row before it that is open there
+  abbrev Onward : List ℕ → ℕ → Type 0
+  Onward now j = j + markSize ms j < rows → getD now j 0 ≡ lastOpen (markSize ms) (j + markSize ms j) j
+
+  -- the marks are read up to row k, and say where to go on; row `parent`, which ends at `end`, is the last that is not behind k
+  pub record Filling (now : List ℕ) (k parent end : ℕ) : Type 0 where
+    pub same : length now ≡ length ms
+    pub ahead : (j : ℕ) → k ≤ j → getD now j 0 ≡ getD ms j 0
+    pub onward : (j : ℕ) → j < k → Onward now j
+    pub below : parent ≤ k - 1
+    pub ends : end ≡ parent + markSize ms parent
+    pub inside : k ≤ end
+    pub closed : (j : ℕ) → parent < j → j < k → j + markSize ms j ≤ k
+
+  pub filling-begins : FillReady ms rows → 0 < rows → Filling ms 0 0 rows
+  filling-begins h l = record {
+    same = refl;
+    ahead = λ j _. refl;
+    onward = λ j b. absurd (omega arith);
+    below = omega arith;
+    ends = omega (arith, h .top l);
+    inside = omega arith;
+    closed = λ j b c. absurd (omega arith);
+  }
+
+  -- row k stands in row `parent`, which ends at `end`
+  pub record Standing (k parent end : ℕ) : Type 0 where
+    pub below : parent ≤ k - 1
+    pub ends : end ≡ parent + markSize ms parent
+    pub inside : k < end
+    pub closed : (j : ℕ) → parent < j → j < k → j + markSize ms j ≤ k
+
+  pub standing-is : {k parent end : ℕ} → Standing k parent end → parent ≡ lastOpen (markSize ms) k k
+  standing-is {k} {parent} s =
+      sym (last-is (markSize ms) k k parent (s .below) (s .closed) (λ _. omega (arith, s .inside, s .ends)))
+
+  module _ (h : FillReady ms rows) {now : List ℕ} {k parent end : ℕ} (f : Filling now k parent end) (l : k < rows) where
+    pub stands-here : (k ≡ end → ⊥) → Standing k parent end
+    stands-here n = record { below = f .below; ends = f .ends; inside = omega (arith, f .inside, n); closed = f .closed }
+
+    -- the row that was filled ends here
+    module _ (e : k ≡ end) where
+      ended : parent < k
+      ended = by-test (ltb parent k) (λ y. ltb-true parent k y) (λ n. absurd (let g = ltb-false parent k n in let t = h .top (omega arith) in
+          let z : parent ≡ 0 = omega (arith, f .below) in
+          let w : markSize ms 0 ≡ end = omega (arith, rw z at (f .ends)) in omega (arith, t, w)))
+
+      goes-up : getD now parent 0 ≡ lastOpen (markSize ms) k parent
+      goes-up =
+          let q : parent + markSize ms parent ≡ k = omega (arith, f .ends) in
+          rw q at (f .onward parent ended (omega arith))
+
+      module _ {up : ℕ} (u : up ≡ getD now parent 0) where
+        is-last : up ≡ lastOpen (markSize ms) k parent
+        is-last = u ∙ goes-up
+
+        pub up-below : up < k
+        up-below = omega (arith, ended, is-last, last-below (markSize ms) k parent)
+
+        -- the top ends behind the last row
+        still-open : k < up + markSize ms up
+        still-open =
+            by-test (ltb 0 up)
+            (λ y. let z = last-open (markSize ms) k parent (omega (arith, is-last, ltb-true 0 up y)) in rw is-last z)
+            (λ n. let z : up ≡ 0 = omega (arith, ltb-false 0 up n) in rw z (omega (arith, h .top (omega arith))))
+
+        pub stands-up : {last : ℕ} → last ≡ up + markSize ms up → Standing k up last
+        stands-up v = record {
+          below = omega (arith, up-below);
+          ends = v;
+          inside = omega (arith, still-open);
+          closed = λ j b c. by-test (ltb parent j) (λ y. f .closed j (ltb-true parent j y) c)
+              (λ n. by-test (ltb j parent)
+              (λ y. last-closed (markSize ms) k parent j (rw is-last at b) (ltb-true j parent y))
+              (λ m. let q : j ≡ parent = omega (arith, ltb-false parent j n, ltb-false j parent m) in rw q (omega (arith, f .ends))));
+        }
+
+    -- row k is written, and its mark makes way
+    module _ {p e : ℕ} (s : Standing k p e) {o : ℕ} (same-end : k + markSize ms k ≡ e → o ≡ getD now p 0) (other-end : (k + markSize ms k ≡ e → ⊥) → o ≡ p) where
+      within-parent : k + markSize ms k ≤ e
+      within-parent = let q = standing-is s in omega (arith, s .ends, rw (← q) at (h .nests k l))
+
+      -- the top is the last to end
+      before : k + markSize ms k < rows → p < k
+      before b = by-test (ltb p k) (λ y. ltb-true p k y) (λ n. absurd (
+          let z : k ≡ 0 = omega (arith, s .below, ltb-false p k n) in
+          let w : 0 + markSize ms 0 < rows = rw z at b in
+          omega (arith, w, h .top (omega arith))))
+
+      goes-on : k + markSize ms k < rows → o ≡ lastOpen (markSize ms) (k + markSize ms k) k
+      goes-on b =
+          by-test (eqb (k + markSize ms k) e)
+          (λ y. let q = eqb-true (k + markSize ms k) e y in
+          let z : p + markSize ms p ≡ k + markSize ms k = omega (arith, q, s .ends) in
+          let g : p < k = before b in
+          same-end q ∙ (rw z at (f .onward p g (omega arith)))
+          ∙ sym (last-skip (markSize ms) (k + markSize ms k) p k (omega arith) (λ j c d. by-test (ltb p j)
+          (λ t. omega (arith, s .closed j (ltb-true p j t) d)) (λ t. let w : j ≡ p = omega (arith, ltb-false p j t) in rw w (omega arith)))))
+          (λ n. let q = eqb-false (k + markSize ms k) e n in
+          other-end q ∙ sym (last-is (markSize ms) (k + markSize ms k) k p (s .below) (λ j c d. omega (arith, s .closed j c d))
+          (λ _. omega (arith, within-parent, q, s .ends))))
+
+      abbrev next : List ℕ
+      next = set now k o
+
+      in-now : k < length now
+      in-now = omega (arith, f .same, h .few)
+
+      module _ {parent₂ end₂ : ℕ} (b : parent₂ ≤ k) (d : end₂ ≡ parent₂ + markSize ms parent₂) (i : k < end₂)
+          (c : (j : ℕ) → parent₂ < j → j < k + 1 → j + markSize ms j ≤ k + 1) where
+        advanced : Filling next (k + 1) parent₂ end₂
+        advanced = record {
+          same = length-set now k o ∙ f .same;
+          ahead = λ j a. getD-set-other now k j o 0 (λ e. omega arith) ∙ f .ahead j (omega arith);
+          onward = λ j a. by-test (eqb j k)
+              (λ y. let q = eqb-true j k y in rw q (λ r. getD-set-same now k o 0 in-now ∙ goes-on r))
+              (λ n. let q = eqb-false j k n in λ r. getD-set-other now k j o 0 q ∙ f .onward j (omega (arith, q)) r);
+          below = omega arith;
+          ends = d;
+          inside = omega arith;
+          closed = c;
+        }
+
+      pub filled-list : 1 < markSize ms k → Filling next (k + 1) k (k + markSize ms k)
+      filled-list g = advanced (omega arith) refl (omega arith) (λ j a c. absurd (omega arith))
+
+      pub filled-leaf : markSize ms k ≤ 1 → Filling next (k + 1) p e
+      filled-leaf g =
+          advanced (omega (arith, s .below)) (s .ends) (s .inside)
+          (λ j a c. by-test (ltb j k) (λ y. omega (arith, s .closed j a (ltb-true j k y)))
+          (λ n. let q : j ≡ k = omega (arith, ltb-false j k n) in rw q (omega arith)))

@@ -12,7 +12,7 @@ use Rattle.syntax.specs.Tree.{Node, scalar, array, object, Nodes, none, more, M
 use Rattle.syntax.specs.Rows.{Entry, size, sizes, sizesMembers, entries, entriesAll, entriesMembers, parents, parentsAll, parentsMembers, layOut, words}
 use Rattle.syntax.proofs.Facts.{size-pos, entries-length, parents-length, noEntry, Each, each, each-left, each-right, each-join, each-at}
 use Rattle.marks.specs.Marks.{markEntry, markEntries}
-use Rattle.marks.specs.Filling.{lastOpen, parentsTo, markSize, markWords}
+use Rattle.marks.specs.Filling.{lastOpen, parentsTo, markSize, markWords, FillReady}
 use Rattle.marks.proofs.marks.Laws.{marks-length, marks-at}
 use Rattle.marks.proofs.filling.Laws.{last-is, parents-count, parents-at}
 
@@ -62,21 +62,22 @@ module _ (rows : ℕ → ℕ) where
         (ending-join (omega arith) (ends (r + 1) n (each-left Sized (r + 1) (entries n) (entriesMembers ms) (h .1)))
         (rw q at (ends-members (r + 1 + size n) ms (each-right Sized (r + 1) (entries n) (entriesMembers ms) (omega (arith, entries-length n)) (h .1)))))
 
-  -- row r stands in row p
+  -- row r stands in row p, and ends in it
   abbrev StandsIn : ℕ → ℕ → Type 0
-  StandsIn r p = lastOpen rows r r ≡ p
+  StandsIn r p = (lastOpen rows r r ≡ p) × (r + rows r ≤ p + rows p)
 
-  -- row p, or the top, holds the rows from r up to e, and those between p and r have ended
+  -- row p holds the rows from r up to e, and those between p and r have ended
   record Around (p r e : ℕ) : Type 0 where
     below : p ≤ r - 1
     closed : Ending (p + 1) r
-    holds : 0 < p → e ≤ p + rows p
+    holds : e ≤ p + rows p
 
-  around : {p r e : ℕ} → Around p r e → r < e → StandsIn r p
-  around {p} {r} a l = last-is rows r r p (a .below) (λ j b c. a .closed j (omega arith) c) (λ z. omega (arith, a .holds z))
+  around : {p r e : ℕ} → Around p r e → r < e → r + rows r ≤ e → StandsIn r p
+  around {p} {r} a l m =
+      (last-is rows r r p (a .below) (λ j b c. a .closed j (omega arith) c) (λ z. omega (arith, a .holds)), omega (arith, a .holds))
 
   narrower : {p r e f : ℕ} → f ≤ e → Around p r e → Around p r f
-  narrower l a = record { below = a .below; closed = a .closed; holds = λ z. omega (arith, a .holds z) }
+  narrower l a = record { below = a .below; closed = a .closed; holds = omega (arith, a .holds) }
 
   behind : {p r m e : ℕ} → r ≤ m → Ending r m → Around p r e → Around p m e
   behind {p} {r} {m} l f a = record {
@@ -88,17 +89,17 @@ module _ (rows : ℕ → ℕ) where
 
   -- the row itself, of what stands in it
   inside : {r k : ℕ} → rows r ≡ k → Around r (r + 1) (r + k)
-  inside e = record { below = omega arith; closed = λ j b c. absurd (omega arith); holds = λ z. omega (arith, e) }
+  inside e = record { below = omega arith; closed = λ j b c. absurd (omega arith); holds = omega (arith, e) }
 
   mutual
     stand : (p r : ℕ) (n : Node) → Each Sized r (entries n) → Around p r (r + size n) → Each StandsIn r (parents p r n)
-    stand p r (scalar k f e) h a = (around a (omega arith), tt)
+    stand p r (scalar k f e) h a = (around a (omega arith) (omega (arith, h .0)), tt)
     stand p r (array f e ns) h a =
         let q : r + suc (sizes ns) ≡ r + 1 + sizes ns = omega arith in
-        (around a (omega arith), stand-all r (r + 1) ns (h .1) (rw q at (inside (h .0))))
+        (around a (omega arith) (omega (arith, h .0)), stand-all r (r + 1) ns (h .1) (rw q at (inside (h .0))))
     stand p r (object f e ms) h a =
         let q : r + suc (sizesMembers ms) ≡ r + 1 + sizesMembers ms = omega arith in
-        (around a (omega arith), stand-members r (r + 1) ms (h .1) (rw q at (inside (h .0))))
+        (around a (omega arith) (omega (arith, h .0)), stand-members r (r + 1) ms (h .1) (rw q at (inside (h .0))))
 
     stand-all : (p r : ℕ) (ns : Nodes) → Each Sized r (entriesAll ns) → Around p r (r + sizes ns) → Each StandsIn r (parentsAll p r ns)
     stand-all p r none h a = tt
@@ -120,7 +121,7 @@ module _ (rows : ℕ → ℕ) where
         let q : r + suc (size n + sizesMembers ms) ≡ r + 1 + size n + sizesMembers ms = omega arith in
         let b : Around p (r + 1) (r + 1 + size n + sizesMembers ms) =
         behind (omega arith) (ending-row (omega (arith, h .0)) (ending-none (omega arith))) (rw q at a) in (
-          around a (omega arith),
+          around a (omega arith) (omega (arith, h .0)),
           each-join StandsIn (r + 1) (parents p (r + 1) n) (parentsMembers p (r + 1 + size n) ms) (omega (arith, parents-length p (r + 1) n))
               (stand p (r + 1) n x (narrower (omega arith) b))
               (stand-members p (r + 1 + size n) ms y (behind (omega arith) (ends (r + 1) n x) b)),
@@ -137,15 +138,39 @@ module _ (ms : List ℕ) (n : Node) (l : size n ≤ length ms) (h : markEntries 
       (ap markEntry (sym (getD-take (size n) ms j 0 b)) ∙ sym (marks-at (take (size n) ms) j (omega (arith, length-take-le (size n) ms l)))
       ∙ ap (λ (xs : List Entry). getD xs j noEntry) h)))
 
+  -- the top has all rows
+  marked-top : markSize ms 0 ≡ size n
+  marked-top = go n marked-sizes
+    where
+      go : (m : Node) → Each (Sized (markSize ms)) 0 (entries m) → markSize ms 0 ≡ size m
+      go (scalar k f e) g = g .0
+      go (array f e ns) g = g .0
+      go (object f e ms) g = g .0
+
+  -- each stands where the tree says, and ends there
+  stands : Each (StandsIn (markSize ms)) 0 (parents 0 0 n)
+  stands =
+      stand (markSize ms) 0 0 n marked-sizes
+      (record { below = omega arith; closed = λ j b c. absurd (omega arith); holds = omega (arith, marked-top) })
+
+  stands-at : (j : ℕ) → j < size n → StandsIn (markSize ms) j (getD (parents 0 0 n) j 0)
+  stands-at j l =
+      let z : 0 + j ≡ j = omega arith in
+      rw z at (each-at (StandsIn (markSize ms)) 0 0 (parents 0 0 n) stands j (omega (arith, parents-length 0 0 n)))
+
+  pub tree-fills : size n ≤ 65536 → FillReady ms (size n)
+  tree-fills m = record {
+    few = l;
+    small = m;
+    top = λ _. marked-top;
+    within = λ j b. omega (arith, ends (markSize ms) 0 n marked-sizes j (omega arith) (omega arith));
+    nests = λ j b. let s = stands-at j b in rw (s .0) (s .1);
+  }
+
   marked-parents : parentsTo (markSize ms) (size n) ≡ parents 0 0 n
   marked-parents =
-      let s = stand (markSize ms) 0 0 n marked-sizes
-      (record { below = omega arith; closed = λ j b c. absurd (omega arith); holds = λ z. absurd (omega arith) }) in
-      let c = parents-count (markSize ms) (size n) in
-      ext-getD 0 (parentsTo (markSize ms) (size n)) (parents 0 0 n) (omega (arith, c, parents-length 0 0 n)) (λ j m.
-      let z : 0 + j ≡ j = omega arith in
-      parents-at (markSize ms) (size n) j (omega arith)
-      ∙ (rw z at (each-at (StandsIn (markSize ms)) 0 0 (parents 0 0 n) s j (omega (arith, parents-length 0 0 n)))))
+      ext-getD 0 (parentsTo (markSize ms) (size n)) (parents 0 0 n) (omega (arith, parents-count (markSize ms) (size n), parents-length 0 0 n))
+      (λ j m. let b : j < size n = omega (arith, parents-count (markSize ms) (size n)) in parents-at (markSize ms) (size n) j b ∙ stands-at j b .0)
 
   pub tree-words : markWords ms (size n) ≡ words n
   tree-words = ap₂ layOut h marked-parents

@@ -15,14 +15,14 @@ use Rattle.syntax.specs.Rows.{size, entries, words}
 use Rattle.syntax.specs.Grammar.{valueAt, alone, wholeAt, readText}
 use Rattle.syntax.specs.Answer.{rowsIn as roomIn, answer, answerOf, tableOf}
 use Rattle.marks.specs.Marks.{markEntries}
-use Rattle.marks.specs.Filling.{markWords}
+use Rattle.marks.specs.Filling.{markWords, FillReady}
 use Rattle.reader.specs.Scanning.{scanOf, Ready, Marked, Told}
 use Rattle.syntax.specs.declared.answers.Answer.{Answer}
 use Rattle.reader.specs.declared.scanning.Scanned.{Scanned}
 use Rattle.reader.specs.declared.scanning.Scanned.the-variants.{Refused, Value}
 use Rattle.syntax.proofs.Facts.{value-takes}
 use Rattle.reader.proofs.scanning.Outcomes.{scan-refused, scan-value, answer-refused, answer-full, answer-read}
-use Rattle.marks.proofs.Facts.{nothing-unnamed, index-fresh, tree-words}
+use Rattle.marks.proofs.Facts.{nothing-unnamed, index-fresh, tree-words, tree-fills}
 use Rattle.syntax.proofs.Theorems.{read-code, read-rows}
 
 -- ---- both passes
@@ -113,6 +113,13 @@ module _ {d : ℕ} {s hs ms : List ℕ} {r : Scanned} {hs₂ ms₂ : List ℕ} (
         small = omega (arith, value-takes s d (n .1), n .2, o .given .room .short);
         behind = y;
       }
+
+module _ {d : ℕ} {s ms₂ : List ℕ} {k j : ℕ} (v : ValueRead d s ms₂ k j) where
+  -- its marks are those of a tree
+  pub fills : FillReady ms₂ k
+  fills =
+      let z = v .sized in
+      rw (← z) (tree-fills ms₂ (v .tree) (rw z (v .few)) (rw z (v .rows)) (rw z (v .small)))
 
 module _ {d : ℕ} {s ms₂ : List ℕ} {k j : ℕ} (v : ValueRead d s ms₂ k j) (t : List ℕ) where
   pub passed-behind : j < length s → Passed (wholeAt d s) (Refused 3 j) t t

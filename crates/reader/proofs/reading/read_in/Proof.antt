@@ -1,7 +1,7 @@
 -- `read_in` meets its contract: `reading/Laws` has a law for each way out.
 use native.Mathlib.Omega.{arith}
 use borrow.Author.Needs.{needs}
-use Rattle.reader.proofs.reading.Laws.{Over, ValueRead, ready, passed-refused, value-read, passed-behind, passed-full, passed-read}
+use Rattle.reader.proofs.reading.Laws.{Over, ValueRead, ready, passed-refused, value-read, passed-behind, passed-full, passed-read, fills}
 use Rattle.reader.proofs.reading.read_in.Statement.{statement}
 use Rattle.reader.proofs.reading.read_in.Tie as tie
 
@@ -43,14 +43,14 @@ read-in-spec = tie.close (tie.spec
     (λ c. search needs)  -- same-length
     (λ c. search needs)  -- same-length-2
     (λ c. passed-behind (read (c .before)) _ (c .if1 .taken))  -- returns
-    (λ c κs. let v = read (c .before .before .before .before) in (v .few, omega arith, v .small))  -- fill-requires
+    (λ c κs. (fills (read (c .before .before .before .before)), omega arith))  -- fill-requires
     (λ c. search needs)  -- same-length-3
     (λ c. search needs)  -- same-length-4
     (λ c. passed-refused (over (c .before .before .before)) _ (c .before .code .given .1))  -- returns-2
     (λ c. search needs)  -- same-length-5
     (λ c. search needs)  -- same-length-6
     (λ c. search needs)  -- same-length-7
-    (λ c. let f = c .before .before in passed-read (read (filled f)) _ (omega arith) (omega arith) (f .fill .ensures))  -- returns-3
+    (λ c. let f = c .before .before .before .before in passed-read (read (filled f)) _ (omega arith) (omega arith) (f .fill .ensures))  -- returns-3
     (λ c. search needs)  -- same-length-8
     (λ c. search needs)  -- same-length-9
     (λ c. passed-full (read (c .before .before)) _ (c .before .if1 .left) (c .if2 .left)))  -- returns-4
