@@ -1,0 +1,4 @@
+pub mod Buffers
+pub mod Characters
+pub mod Decimals
+pub mod Names

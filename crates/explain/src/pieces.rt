@@ -1,0 +1,102 @@
+// The pieces of a pointer: each is put into the buffer from a place on, as far as it lies there, and the place behind it is told.
+use chars::Step;
+use chars::char_at;
+ghost use Prim.Native.Nat.{_+_, _≤_, _<_};
+ghost use lib.ListN.{length};
+ghost use mathlib.Core.List.{[], _∷_};
+ghost use Rattle.chars.specs.Strings.{characters};
+ghost use Rattle.grammar.specs.Utf8.{utf8};
+ghost use Rattle.explain.specs.Pointers.{tokenChar, tokenChars, decimal};
+ghost use Rattle.explain.specs.Writing.{Puts, near, far};
+
+// A byte.
+pub fn put(out: &mut [u8], at: usize, byte: u8) -> usize
+    requires { ⌜ at < far ⌝ }
+    ensures { λ r. ⌜ Puts (byte ∷ []) at r (now (out .entry)) (now (out .exit)) ⌝ }
+{
+    if at < out.len() {
+        out[at] = byte;
+    }
+    at + 1
+}
+
+// Two bytes.
+fn put_two(out: &mut [u8], at: usize, first: u8, second: u8) -> usize
+    requires { ⌜ at + 2 ≤ far ⌝ }
+    ensures { λ r. ⌜ Puts (first ∷ second ∷ []) at r (now (out .entry)) (now (out .exit)) ⌝ }
+{
+    let behind = put(out, at, first);
+    put(out, behind, second)
+}
+
+// The bytes of UTF-8.
+fn put_utf8(out: &mut [u8], at: usize, c: u32) -> usize
+    requires { ⌜ (c ≤ 0x10FFFF) × (at + 4 ≤ far) ⌝ }
+    ensures { λ r. ⌜ Puts (utf8 c) at r (now (out .entry)) (now (out .exit)) ⌝ }
+{
+    if c < 0x80 {
+        return put(out, at, c as u8);
+    }
+    let last = 0x80 + (c % 64) as u8;
+    if c < 0x800 {
+        return put_two(out, at, 0xc0 + (c / 64) as u8, last);
+    }
+    let third = 0x80 + (c / 64 % 64) as u8;
+    if c < 0x10000 {
+        let behind = put_two(out, at, 0xe0 + (c / 4096) as u8, third);
+        return put(out, behind, last);
+    }
+    let first = 0xf0 + (c / 262144) as u8;
+    let behind = put_two(out, at, first, 0x80 + (c / 4096 % 64) as u8);
+    put_two(out, behind, third, last)
+}
+
+// A character of a reference token.
+fn put_char(out: &mut [u8], at: usize, c: u32) -> usize
+    requires { ⌜ (c ≤ 0x10FFFF) × (at + 4 ≤ far) ⌝ }
+    ensures { λ r. ⌜ Puts (tokenChar c) at r (now (out .entry)) (now (out .exit)) ⌝ }
+{
+    if c == 0x7e {
+        return put_two(out, at, b'~', b'0');
+    }
+    if c == 0x2f {
+        return put_two(out, at, b'~', b'1');
+    }
+    put_utf8(out, at, c)
+}
+
+// The characters of a name, of which the bytes between the quotes are given.
+pub fn put_name(out: &mut [u8], at: usize, name: &[u8]) -> usize
+    requires { ⌜ (length (now name) ≤ 65536) × (at ≤ near + 1) ⌝ }
+    ensures { λ r. ⌜ Puts (tokenChars (characters (now (name .entry)))) at r (now (out .entry)) (now (out .exit)) ⌝ }
+{
+    let mut next = at;
+    let mut i = 0;
+    loop {
+        match char_at(name, i) {
+            Step::Char {
+                value,
+                next: behind,
+            } => {
+                next = put_char(out, next, value);
+                i = behind;
+            }
+            _ => {
+                return next;
+            }
+        }
+    }
+}
+
+// An index in decimal.
+pub fn put_index(out: &mut [u8], at: usize, index: usize) -> usize
+    requires { ⌜ at ≤ near + 1 ⌝ }
+    ensures { λ r. ⌜ Puts (decimal index) at r (now (out .entry)) (now (out .exit)) ⌝ }
+{
+    let last = b'0' + (index % 10) as u8;
+    if index < 10 {
+        return put(out, at, last);
+    }
+    let behind = put_index(out, at, index / 10);
+    put(out, behind, last)
+}
