@@ -1,53 +1,28 @@
+-- `explain::pointers::index_of` meets its contract. The loop's invariant: `index` elements stand before row `row`, and the one that is sought does not.
+use Prim.Native.Nat.{_-_}
+use native.Mathlib.Omega.{arith}
+use Rattle.explain.specs.Writing.{ElementRow}
+use Rattle.explain.proofs.pointers.Elements.{element-ahead, Passed, passed-none, passed-here, passed-all}
 use Rattle.explain.proofs.pointers.index_of.Statement.{statement}
 use Rattle.explain.proofs.pointers.index_of.Tie as tie
-use Rattle.explain.proofs.pointers.index_of.Reads as reads
-use Rattle.explain.proofs.pointers.index_of.Lts as lts
-use Rattle.rows.proofs.row_at.Reads as row-at-reads
 
-abbrev Inv-loop : tie.InvT-loop
-Inv-loop table parent child row₀ index₀ row index = ?
+abbrev Inv : tie.InvT-loop
+Inv table parent child row₀ index₀ row index = (d : ElementRow table parent child) → Passed table child (d .index) (d .value) row index
 
-abbrev μ-loop : tie.MeasureT-loop
-μ-loop table parent child row₀ index₀ row index = ?
+abbrev μ : tie.MeasureT-loop
+μ table parent child row₀ index₀ row index = child - row
 
--- src/pointers.rt:15:19
-add-row : tie.Need-add-row Inv-loop μ-loop
-add-row c = ?
-
--- src/pointers.rt:17:5
-loop-holds : tie.Need-loop-holds Inv-loop μ-loop
-loop-holds c = ?
-
--- src/pointers.rt:18:15
-row-at-requires : tie.Need-row-at-requires Inv-loop μ-loop
-row-at-requires c κs = ?
-
--- src/pointers.rt:19:9
-add-index : tie.Need-add-index Inv-loop μ-loop
-add-index c = ?
-
--- src/pointers.rt:17:5
-loop-less : tie.Need-loop-less Inv-loop μ-loop
-loop-less c = ?
-
--- src/pointers.rt:17:5
-loop-again : tie.Need-loop-again Inv-loop μ-loop
-loop-again c = ?
-
--- src/pointers.rt:11:1
-returns : tie.Need-returns Inv-loop μ-loop
-returns c = ?
+-- the entry, from the loop
+abbrev start : tie.At-loop Inv μ → tie.Start Inv μ
+start c = c .before .before
 
 pub index-of-spec : {M : Type 1} → statement M
-index-of-spec =
-    tie.close
-    (tie.spec
-    Inv-loop
-    μ-loop
-    add-row
-    loop-holds
-    row-at-requires
-    add-index
-    loop-less
-    loop-again
-    returns)
+index-of-spec = tie.close (tie.spec Inv μ
+    (λ c. omega (arith, element-ahead (c .before .pre .is)))  -- parent + 1
+    (λ c d. passed-none d)  -- loop-holds
+    (λ c κs. passed-here (c .before .loop .inv (start (c .before) .pre)) (c .loop-test .taken) .in-table)  -- row-at-requires
+    (λ c. let t = c .before in omega (arith, t .before .loop .inv (start (t .before) .pre) .few))  -- index + 1
+    (λ c. let t = c .before in
+      omega (arith, passed-here (t .before .loop .inv (start (t .before) .pre)) (t .loop-test .taken) .long, c .row-at .ensures .next))  -- loop-less
+    (λ c d. passed-here (c .before .before .loop .inv d) (c .before .loop-test .taken) .next (c .row-at .ensures .next))  -- loop-again
+    (λ c. record { tells = λ d. passed-all (c .before .loop .inv d) (c .loop-test .left) }))  -- returns
