@@ -1,76 +1,57 @@
+-- `explain::pointers::put_token` meets its contract: a name or an index behind the slash.
+use native.Mathlib.Omega.{arith}
 use borrow.Author.Needs.{needs}
+use Rattle.rows.proofs.Facts.{in-table, quotes-read}
+use Rattle.explain.proofs.pointers.Steps.{Named, body-short, step-name, step-element, put-named, put-indexed}
 use Rattle.explain.proofs.pointers.put_token.Statement.{statement}
 use Rattle.explain.proofs.pointers.put_token.Tie as tie
-use Rattle.explain.proofs.pointers.put_token.Reads as reads
-use Rattle.explain.proofs.pointers.put_token.Lts as lts
-use Rattle.explain.proofs.pieces.put.Reads as put-reads
-use Rattle.explain.proofs.pieces.put_index.Reads as put-index-reads
-use Rattle.explain.proofs.pieces.put_name.Reads as put-name-reads
-use Rattle.explain.proofs.pointers.index_of.Reads as index-of-reads
-use Rattle.rows.proofs.between.Reads as between-reads
-use Rattle.rows.proofs.row_at.Reads as row-at-reads
 
--- src/pointers.rt:36:9
-put-requires : tie.Need-put-requires
-put-requires c κs = search needs
+-- from the row of the array or object: the slash, and the entry
+abbrev slash : tie.After-row-at → tie.After-put
+slash c = c .before .before .before
 
--- src/pointers.rt:37:8
-row-at-requires : tie.Need-row-at-requires
-row-at-requires c κs = ?
+abbrev start : tie.After-put → tie.Start
+start c = c .before .before .before .before .before
 
--- src/pointers.rt:38:34
-sub-row-at : tie.Need-sub-row-at
-sub-row-at c = ?
+-- that row, from both ways
+abbrev object : tie.Then1 → tie.After-row-at
+object c = c .before .before
 
--- src/pointers.rt:38:13
-row-at-requires-2 : tie.Need-row-at-requires-2
-row-at-requires-2 c κs = ?
+abbrev array : tie.Else1 → tie.After-row-at
+array c = c .before .before
 
--- src/pointers.rt:39:38
-between-requires : tie.Need-between-requires
-between-requires c κs = ?
+name : (c : tie.Then1) → let d = start (slash (object c)) in Named (d .args .text .now) (d .args .table .now) (d .args .child) (d .pre .step .token)
+name c = let p = object c in step-name (start (slash p) .pre .step) (p .row-at .ensures) (c .if1 .taken)
 
--- src/pointers.rt:39:9
-put-name-requires : tie.Need-put-name-requires
-put-name-requires c κs = ?
+by-name : tie.Need-returns
+by-name c =
+    let b = c .before .before .before in
+    let n = b .before .before in
+    let p = object (n .before) in
+    record {
+      tells = λ d. put-named d (p .row-at .ensures) (slash p .put .ensures) (n .before .if1 .taken) (n .row-at2 .ensures) (b .between .ensures)
+          (c .before .before .put-name .ensures)
+    }
 
--- src/pointers.rt:39:9
-same-length : tie.Need-same-length
-same-length c = search needs
-
--- src/pointers.rt:39:9
-returns : tie.Need-returns
-returns c = ?
-
--- src/pointers.rt:41:28
-index-of-requires : tie.Need-index-of-requires
-index-of-requires c κs = ?
-
--- src/pointers.rt:41:5
-put-index-requires : tie.Need-put-index-requires
-put-index-requires c κs = search needs
-
--- src/pointers.rt:25:1
-same-length-2 : tie.Need-same-length-2
-same-length-2 c = search needs
-
--- src/pointers.rt:25:1
-returns-2 : tie.Need-returns-2
-returns-2 c = ?
+by-index : tie.Need-returns-2
+by-index c =
+    let i = c .before .before .before in
+    let e = i .before .before in
+    let p = array e in
+    record { tells = λ d. put-indexed d (p .row-at .ensures) (slash p .put .ensures) (e .if1 .left) (i .index-of .ensures) (c .before .before .put-index .ensures) }
 
 pub put-token-spec : {M : Type 1} → statement M
-put-token-spec =
-    tie.close
-    (tie.spec
-    put-requires
-    row-at-requires
-    sub-row-at
-    row-at-requires-2
-    between-requires
-    put-name-requires
-    same-length
-    returns
-    index-of-requires
-    put-index-requires
-    same-length-2
-    returns-2)
+put-token-spec = tie.close (tie.spec
+    (λ c κs. search needs)  -- put-requires
+    (λ c κs. in-table (start (c .before .before) .pre .step .around))  -- row-at-requires
+    (λ c. omega (arith, name c .behind))  -- child - 1
+    (λ c κs. name c .in-table)  -- row-at-requires-2
+    (λ c κs. let r = c .before in quotes-read (r .row-at2 .ensures) (name (r .before) .quoted))  -- between-requires
+    (λ c κs. let d = slash (object (c .before .before .before)) in
+      (body-short _ (c .before .before .row-at2 .result) (c .between .ensures) (start d .pre .short), omega (arith, d .put .ensures .next, start d .pre .place)))  -- put-name-requires
+    (λ c. search needs)  -- same-length
+    by-name
+    (λ c κs. let e = c .before in let p = array e in step-element (start (slash p) .pre .step) (p .row-at .ensures) (e .if1 .left) .element)  -- index-of-requires
+    (λ c κs. search needs)  -- put-index-requires
+    (λ c. search needs)  -- same-length-2
+    by-index)
