@@ -1,2 +1,4 @@
 pub mod Elements
 pub mod Steps
+pub mod Chains
+pub mod Values

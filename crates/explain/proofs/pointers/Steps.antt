@@ -57,7 +57,7 @@ element-of (object f e ms) h (to-member a) k = absurd (k (h .0 .kind))
 
 -- ---- by the rows that were read
 
-part-short : (s : List ℕ) (a e : ℕ) → length (part s a e) ≤ length s
+pub part-short : (s : List ℕ) (a e : ℕ) → length (part s a e) ≤ length s
 part-short s a e = simp (length-take, length-drop) (omega arith)
 
 pub body-short : (s : List ℕ) (y : Record) {body : List ℕ} → body ≡ part s (y .first + 1) (y .end - 1) → length s ≤ 65536 → length body ≤ 65536

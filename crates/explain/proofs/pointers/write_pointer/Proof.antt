@@ -1,88 +1,58 @@
+-- `explain::pointers::write_pointer` meets its contract. The loop's invariant: the tokens from the top down to the row at i are put, and a chain of steps goes
+-- on from there.
+use Prim.Native.Nat.{_-_}
+use native.Mathlib.Omega.{arith}
+use borrow.Author.Needs.{needs}
+use Rattle.explain.specs.Writing.{PointerReady}
+use Rattle.explain.proofs.pieces.Buffers.{puts-length}
+use Rattle.explain.proofs.pointers.Chains.{chain-long, Walked, walked-start, walked-end, walked-ready, walked-next}
+use Rattle.explain.proofs.pointers.Values.{pointer-written}
 use Rattle.explain.proofs.pointers.write_pointer.Statement.{statement}
 use Rattle.explain.proofs.pointers.write_pointer.Tie as tie
-use Rattle.explain.proofs.pointers.write_pointer.Reads as reads
-use Rattle.explain.proofs.pointers.write_pointer.Lts as lts
-use Rattle.explain.proofs.pointers.put_token.Reads as put-token-reads
 
-abbrev Inv-loop : tie.InvT-loop
-Inv-loop text table path out₀ at₀ i₀ out at i = ?
+abbrev Inv : tie.InvT-loop
+Inv text table path out₀ at₀ i₀ out at i = (d : PointerReady text table path) → Walked text table path (d .bytes) out₀ i at out
 
-abbrev μ-loop : tie.MeasureT-loop
-μ-loop text table path out₀ at₀ i₀ out at i = ?
+abbrev μ : tie.MeasureT-loop
+μ text table path out₀ at₀ i₀ out at i = i
 
--- src/pointers.rt:51:17
-sub-i : tie.Need-sub-i Inv-loop μ-loop
-sub-i c = ?
+-- the entry, from the loop
+abbrev start : tie.At-loop Inv μ → tie.Start Inv μ
+start c = c .before .before .before .before .before
 
--- src/pointers.rt:52:5
-loop-holds : tie.Need-loop-holds Inv-loop μ-loop
-loop-holds c = ?
+-- the turn of the loop in which a token is put
+abbrev turn : tie.After-put-token-arg Inv μ → tie.In-loop Inv μ
+turn c = c .before .before .before
 
--- src/pointers.rt:53:22
-mul-parent : tie.Need-mul-parent Inv-loop μ-loop
-mul-parent c = ?
+abbrev walked : (c : tie.At-loop Inv μ) → let a = start c .args in
+    Walked (a .text .now) (a .table .now) (a .path .now) (start c .pre .bytes) (a .out .now) (c .loop .i) (c .loop .at) (c .loop .out)
+walked c = c .loop .inv (start c .pre)
 
--- src/pointers.rt:53:22
-shared-slice-read-parent : tie.Need-shared-slice-read-parent Inv-loop μ-loop
-shared-slice-read-parent c = ?
+again : tie.Need-loop-again Inv μ
+again c d =
+    let p = c .before .before in
+    let t = turn (p .before) in
+    walked-next (t .before .loop .inv d) (t .loop-test .taken) (d .short) (omega (arith, p .before .before .shared-slice-known5 .given (t .before .loop .i - 1)))
+    (p .put-token .ensures)
 
--- src/pointers.rt:53:22
-cast-parent : tie.Need-cast-parent Inv-loop μ-loop
-cast-parent c = ?
-
--- src/pointers.rt:54:9
-sub-i-2 : tie.Need-sub-i-2 Inv-loop μ-loop
-sub-i-2 c = ?
-
--- src/pointers.rt:55:21
-mul-child : tie.Need-mul-child Inv-loop μ-loop
-mul-child c = ?
-
--- src/pointers.rt:55:21
-shared-slice-read-child : tie.Need-shared-slice-read-child Inv-loop μ-loop
-shared-slice-read-child c = ?
-
--- src/pointers.rt:55:21
-cast-child : tie.Need-cast-child Inv-loop μ-loop
-cast-child c = ?
-
--- src/pointers.rt:56:9
-put-token-requires : tie.Need-put-token-requires Inv-loop μ-loop
-put-token-requires c κs = ?
-
--- src/pointers.rt:52:5
-loop-less : tie.Need-loop-less Inv-loop μ-loop
-loop-less c = ?
-
--- src/pointers.rt:52:5
-loop-again : tie.Need-loop-again Inv-loop μ-loop
-loop-again c = ?
-
--- src/pointers.rt:46:1
-same-length : tie.Need-same-length Inv-loop μ-loop
-same-length c = ?
-
--- src/pointers.rt:46:1
-returns : tie.Need-returns Inv-loop μ-loop
-returns c = ?
+ready : tie.Need-put-token-requires Inv μ
+ready c κs =
+    let t = turn c in
+    walked-ready (walked (t .before)) (t .loop-test .taken) (start (t .before) .pre .short) (omega (arith, c .before .shared-slice-known5 .given (t .before .loop .i)))
 
 pub write-pointer-spec : {M : Type 1} → statement M
-write-pointer-spec =
-    tie.close
-    (tie.spec
-    Inv-loop
-    μ-loop
-    sub-i
-    loop-holds
-    mul-parent
-    shared-slice-read-parent
-    cast-parent
-    sub-i-2
-    mul-child
-    shared-slice-read-child
-    cast-child
-    put-token-requires
-    loop-less
-    loop-again
-    same-length
-    returns)
+write-pointer-spec = tie.close (tie.spec Inv μ
+    (λ c. omega (arith, chain-long (c .before .before .before .before .pre .chain)))  -- path.len() - 1
+    (λ c d. walked-start d _)  -- loop-holds
+    (λ c. omega (arith, walked (c .before) .place))  -- path[i], within the slice and as a usize
+    (λ c. omega (arith, walked (c .before .before) .place))
+    (λ c. omega (arith, c .shared-slice-known4 .given (c .before .before .loop .i)))
+    (λ c. omega arith)  -- i - 1
+    (λ c. omega (arith, walked (c .before .before) .place))  -- path[i - 1]
+    (λ c. omega (arith, walked (c .before .before .before) .place))
+    (λ c. omega (arith, c .shared-slice-known5 .given (c .before .before .before .loop .i - 1)))
+    ready
+    (λ c. omega arith)  -- loop-less
+    again
+    (λ c. puts-length (walked-end (walked (c .before)) (c .loop-test .left)))  -- same-length
+    (λ c. pointer-written (start (c .before) .pre) (walked-end (walked (c .before)) (c .loop-test .left))))  -- returns
