@@ -1,6 +1,6 @@
 -- A character of a reference token, by cases.
 use Prim.Native.Nat.{ℕ, _/_, _%_, _+_, _≤_, _<_}
-use mathlib.Core.Path.{_≡_, refl, ap}
+use mathlib.Core.Path.{_≡_}
 use mathlib.Core.List.{[], _∷_}
 use native.Mathlib.Omega.{arith}
 use borrow.Author.Tests.{ne-eqb, lt-ltb, le-ltb}

@@ -6,11 +6,10 @@ use native.Mathlib.Omega.{arith}
 use lib.ListN.{length, length-append, getD}
 use lib.Seq.{getD-at}
 use Rattle.chars.specs.Strings.{part}
-use Rattle.syntax.specs.Tree.{Node, scalar, array, object, Nodes, more, Members, member}
-use Rattle.syntax.specs.Rows.{size}
+use Rattle.syntax.specs.Tree.{Node, array, object, Nodes, more, Members, member}
 use Rattle.syntax.specs.Holding.{Holds, HoldsAll, HoldsMembers, Placed, PlacedAll, PlacedMembers}
 use Rattle.syntax.proofs.Facts.{size-pos}
-use Rattle.explain.specs.Writing.{Puts, near, ElementAt, element-first, element-later, MemberAt, member-first, member-later, StepTo, to-element, to-member}
+use Rattle.explain.specs.Writing.{Puts, ElementAt, element-first, element-later, MemberAt, member-first, member-later, StepTo, to-element, to-member}
 use Rattle.explain.specs.Writing.{Chain, here, inside, StepRow, TokenReady, TokenPut, PointerReady}
 use Rattle.explain.proofs.pieces.Buffers.{puts-none, puts-append, puts-as}
 use Rattle.explain.proofs.pieces.Decimals.{decimal-few}

@@ -1,12 +1,12 @@
 -- Going from element to element up to the one at a row.
 use Prim.Native.Nat.{ℕ, _+_, _*_, _≤_, _<_}
-use mathlib.Core.Path.{_≡_, refl, sym, ap, _∙_}
+use mathlib.Core.Path.{_≡_, refl, ap, _∙_}
 use mathlib.Core.List.{List}
 use native.Mathlib.Omega.{arith}
 use lib.ListN.{length}
 use Rattle.syntax.specs.Tree.{Node, scalar, array, object, Nodes, more}
 use Rattle.syntax.specs.Rows.{rowWords, size}
-use Rattle.syntax.specs.Holding.{word, Row, Holds, HoldsAll}
+use Rattle.syntax.specs.Holding.{word, Holds, HoldsAll}
 use Rattle.syntax.proofs.Facts.{size-pos}
 use Rattle.rows.specs.Records.{InTable}
 use Rattle.explain.specs.Writing.{ElementAt, element-first, element-later, ElementRow}

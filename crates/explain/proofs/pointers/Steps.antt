@@ -1,16 +1,15 @@
 -- A step from an array or object to a value that stands in it: what the table says of it, and its token.
 use Prim.Native.Nat.{ℕ, _+_, _-_, _≤_, _<_}
 use mathlib.Core.Path.{_≡_, refl, sym, ap, _∙_}
-use mathlib.Core.List.{List, [], _∷_, _++_}
+use mathlib.Core.List.{List, [], _∷_}
 use native.Mathlib.Omega.{arith}
 use lib.ListN.{length, length-take, length-drop}
 use Rattle.chars.specs.Strings.{characters, part}
 use Rattle.tokens.specs.Spelling.{IsQuoted}
-use Rattle.syntax.specs.Tree.{Node, scalar, array, object, Nodes, Members, member}
-use Rattle.syntax.specs.Rows.{size}
+use Rattle.syntax.specs.Tree.{Node, array, object, Members, member}
 use Rattle.syntax.specs.Grammar.{nameOf}
 use Rattle.syntax.specs.Holding.{word, Row, Holds, HoldsMembers, Placed, PlacedMembers}
-use Rattle.rows.specs.Records.{InTable, Reads, Rowed}
+use Rattle.rows.specs.Records.{InTable, Reads}
 use Rattle.rows.specs.declared.records.Record.{Record}
 use Rattle.explain.specs.Pointers.{tokenChars, decimal, nameToken, indexToken}
 use Rattle.explain.specs.Writing.{Puts, MemberAt, member-first, member-later, StepTo, to-element, to-member, ElementRow, Counts, StepRow}

@@ -1,16 +1,14 @@
 -- The pointers of a text's values: a chain of steps ends at one of them, and no two have one row.
 use Prim.Native.Nat.{ℕ, _+_, _≤_, _<_}
-use mathlib.Core.Path.{_≡_, refl, sym, ap, _∙_}
+use mathlib.Core.Path.{_≡_, refl, sym, _∙_}
 use mathlib.Core.Logic.{_⊎_, inl, inr, ⊎-elim}
 use mathlib.Core.List.{List, [], _∷_, _++_}
 use native.Mathlib.Omega.{arith}
-use lib.ListN.{length}
 use Rattle.syntax.specs.Tree.{Node, scalar, array, object, Nodes, none, more, Members, no-member, member}
 use Rattle.syntax.specs.Rows.{size, sizes, sizesMembers}
 use Rattle.syntax.specs.Grammar.{nameOf}
-use Rattle.syntax.specs.Holding.{Holds}
-use Rattle.syntax.proofs.Facts.{size-pos, holds-same}
-use Rattle.explain.specs.Pointers.{nameToken, indexToken, Pointer, pointers, pointersAll, pointersMembers, Points, fitted, PointerWritten}
+use Rattle.syntax.proofs.Facts.{holds-same}
+use Rattle.explain.specs.Pointers.{nameToken, indexToken, Pointer, pointers, pointersAll, pointersMembers, Points, PointerWritten}
 use Rattle.explain.specs.Writing.{Puts, ElementAt, element-first, element-later, MemberAt, member-first, member-later, StepTo, to-element, to-member}
 use Rattle.explain.specs.Writing.{Chain, here, inside, PointerReady}
 use Rattle.explain.proofs.pieces.Buffers.{puts-fitted, puts-as}
@@ -127,9 +125,9 @@ module _ (s : List ℕ) (row : ℕ) (v w : List ℕ) where
         let b = before ++ indexToken i in
         ⊎-elim
         (λ x. ⊎-elim (λ y. one b r n x y)
-          (λ y. absurd (omega (arith, range s row v b r n x, range-all s row w before (i + 1) (r + size n) ns y))) (all-ways s row w before i r n ns h))
+        (λ y. absurd (omega (arith, range s row v b r n x, range-all s row w before (i + 1) (r + size n) ns y))) (all-ways s row w before i r n ns h))
         (λ x. ⊎-elim (λ y. absurd (omega (arith, range s row w b r n y, range-all s row v before (i + 1) (r + size n) ns x)))
-          (λ y. one-all before (i + 1) (r + size n) ns x y) (all-ways s row w before i r n ns h))
+        (λ y. one-all before (i + 1) (r + size n) ns x y) (all-ways s row w before i r n ns h))
         (all-ways s row v before i r n ns g)
 
     one-members : (before : List ℕ) (r : ℕ) (ms : Members) → InMembers s row v before r ms → InMembers s row w before r ms → v ≡ w
@@ -138,9 +136,9 @@ module _ (s : List ℕ) (row : ℕ) (v w : List ℕ) where
         let b = before ++ nameToken (nameOf s f e) in
         ⊎-elim
         (λ x. ⊎-elim (λ y. one b (r + 1) n x y)
-          (λ y. absurd (omega (arith, range s row v b (r + 1) n x, range-members s row w before (r + 1 + size n) ms y))) (members-ways s row w before r f e n ms h))
+        (λ y. absurd (omega (arith, range s row v b (r + 1) n x, range-members s row w before (r + 1 + size n) ms y))) (members-ways s row w before r f e n ms h))
         (λ x. ⊎-elim (λ y. absurd (omega (arith, range s row w b (r + 1) n y, range-members s row v before (r + 1 + size n) ms x)))
-          (λ y. one-members before (r + 1 + size n) ms x y) (members-ways s row w before r f e n ms h))
+        (λ y. one-members before (r + 1 + size n) ms x y) (members-ways s row w before r f e n ms h))
         (members-ways s row v before r f e n ms g)
 
 pub one-pointer : (s : List ℕ) (n : Node) (row : ℕ) (v w : List ℕ) → Points row v (pointers s [] 0 n) → Points row w (pointers s [] 0 n) → v ≡ w
@@ -151,5 +149,5 @@ pub pointer-written : {s t path : List ℕ} (d : PointerReady s t path) {k : ℕ
 pointer-written {s} {t} d p = record {
   tells = λ n h row around e w q.
       let same : d .tree ≡ n = holds-same t 0 (d .tree) n (d .holds) h in
-      puts-fitted (puts-as (one-pointer s n row w (d .bytes) q (rw same at (chain-points (d .chain) e))) p)
+      puts-fitted (puts-as (one-pointer s n row w (d .bytes) q (rw same at (chain-points (d .chain) e))) p);
 }

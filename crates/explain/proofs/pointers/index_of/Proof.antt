@@ -23,6 +23,6 @@ index-of-spec = tie.close (tie.spec Inv μ
     (λ c κs. passed-here (c .before .loop .inv (start (c .before) .pre)) (c .loop-test .taken) .in-table)  -- row-at-requires
     (λ c. let t = c .before in omega (arith, t .before .loop .inv (start (t .before) .pre) .few))  -- index + 1
     (λ c. let t = c .before in
-      omega (arith, passed-here (t .before .loop .inv (start (t .before) .pre)) (t .loop-test .taken) .long, c .row-at .ensures .next))  -- loop-less
+    omega (arith, passed-here (t .before .loop .inv (start (t .before) .pre)) (t .loop-test .taken) .long, c .row-at .ensures .next))  -- loop-less
     (λ c d. passed-here (c .before .before .loop .inv d) (c .before .loop-test .taken) .next (c .row-at .ensures .next))  -- loop-again
     (λ c. record { tells = λ d. passed-all (c .before .loop .inv d) (c .loop-test .left) }))  -- returns

@@ -30,7 +30,7 @@ by-name c =
     let p = object (n .before) in
     record {
       tells = λ d. put-named d (p .row-at .ensures) (slash p .put .ensures) (n .before .if1 .taken) (n .row-at2 .ensures) (b .between .ensures)
-          (c .before .before .put-name .ensures)
+          (c .before .before .put-name .ensures);
     }
 
 by-index : tie.Need-returns-2
@@ -48,7 +48,7 @@ put-token-spec = tie.close (tie.spec
     (λ c κs. name c .in-table)  -- row-at-requires-2
     (λ c κs. let r = c .before in quotes-read (r .row-at2 .ensures) (name (r .before) .quoted))  -- between-requires
     (λ c κs. let d = slash (object (c .before .before .before)) in
-      (body-short _ (c .before .before .row-at2 .result) (c .between .ensures) (start d .pre .short), omega (arith, d .put .ensures .next, start d .pre .place)))  -- put-name-requires
+    (body-short _ (c .before .before .row-at2 .result) (c .between .ensures) (start d .pre .short), omega (arith, d .put .ensures .next, start d .pre .place)))  -- put-name-requires
     (λ c. search needs)  -- same-length
     by-name
     (λ c κs. let e = c .before in let p = array e in step-element (start (slash p) .pre .step) (p .row-at .ensures) (e .if1 .left) .element)  -- index-of-requires

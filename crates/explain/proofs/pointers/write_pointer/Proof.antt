@@ -2,7 +2,6 @@
 -- on from there.
 use Prim.Native.Nat.{_-_}
 use native.Mathlib.Omega.{arith}
-use borrow.Author.Needs.{needs}
 use Rattle.explain.specs.Writing.{PointerReady}
 use Rattle.explain.proofs.pieces.Buffers.{puts-length}
 use Rattle.explain.proofs.pointers.Chains.{chain-long, Walked, walked-start, walked-end, walked-ready, walked-next}
