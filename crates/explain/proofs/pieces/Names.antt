@@ -73,7 +73,10 @@ module _ {name : List ℕ} {at : ℕ} {before : List ℕ} {next i : ℕ} {out : 
         puts = puts-append (g .puts) p;
         few = omega (arith, g .few, b .0, char-short v, length-append (g .done) (tokenChar v));
         inside = b .1;
-        rest = g .rest ∙ ap (λ (cs : List ℕ). g .done ++ tokenChars cs) (chars-char name i v j (sym e ∙ q)) ∙ sym (append-assoc (g .done) (tokenChar v) (tokenChars (charsAt name j)));
+        rest =
+            g .rest
+            ∙ ap (λ (cs : List ℕ). g .done ++ tokenChars cs) (chars-char name i v j (sym e ∙ q))
+            ∙ sym (append-assoc (g .done) (tokenChar v) (tokenChars (charsAt name j)));
       }
 
   pub naming-end : (tagOf the-type x ≡ 1) ⊎ (tagOf the-type x ≡ 2) → Puts (tokenChars (characters name)) at next before out

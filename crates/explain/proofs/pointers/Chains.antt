@@ -90,7 +90,8 @@ module _ {s : List ℕ} {r : ℕ} {n : Node} {around rows before w : List ℕ} (
       ap (λ (l : List ℕ). getD l i 0) (f .1) ∙ getD-at (f .0) r around 0 i (omega (arith, chain-length))
 
 -- no step is left
-pub chain-end : {s : List ℕ} {r : ℕ} {n : Node} {around rows before w : List ℕ} → Chain s r n around rows before w → 1 + length around ≡ length rows → w ≡ before
+pub chain-end : {s : List ℕ} {r : ℕ} {n : Node} {around rows before w : List ℕ} → Chain s r n around rows before w
+    → 1 + length around ≡ length rows → w ≡ before
 chain-end here e = refl
 chain-end (inside step chain) e = absurd (omega (arith, chain-long chain))
 
@@ -101,8 +102,8 @@ pub record Below (s : List ℕ) (r : ℕ) (n : Node) (around rows before w : Lis
   pub step : StepTo s r n c value token
   pub chain : Chain s c value (r ∷ around) rows (before ++ token) w
 
-pub chain-more : {s : List ℕ} {r : ℕ} {n : Node} {around rows before w : List ℕ} → Chain s r n around rows before w → (i : ℕ) → 0 < i → i + 1 + length around ≡ length rows
-    → Below s r n around rows before w (getD rows (i - 1) 0)
+pub chain-more : {s : List ℕ} {r : ℕ} {n : Node} {around rows before w : List ℕ} → Chain s r n around rows before w
+    → (i : ℕ) → 0 < i → i + 1 + length around ≡ length rows → Below s r n around rows before w (getD rows (i - 1) 0)
 chain-more here i l e = absurd (omega arith)
 chain-more {s} {r} {n} {around} {rows} {before} {w} (inside {c = c} {m = m} {token = token} step chain) i l e =
     let q : c ≡ getD rows (i - 1) 0 = sym (chain-at chain (i - 1) (omega arith)) in

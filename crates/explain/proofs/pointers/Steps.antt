@@ -51,7 +51,8 @@ pub record Indexed (t : List ℕ) (r c : ℕ) (w : List ℕ) : Type 0 where
   pub is : w ≡ indexToken (element .index)
 
 element-of : {s t : List ℕ} {r c : ℕ} {m : Node} {w : List ℕ} (n : Node) → Holds t r n → StepTo s r n c m w → (word t r 0 ≡ 8 → ⊥) → Indexed t r c w
-element-of {m = m} (array f e ns) h (to-element {j = j} a) k = record { element = record { elements = ns; holds = h .1; index = j; value = m; is = a }; is = refl }
+element-of {m = m} (array f e ns) h (to-element {j = j} a) k =
+    record { element = record { elements = ns; holds = h .1; index = j; value = m; is = a }; is = refl }
 element-of (object f e ms) h (to-member a) k = absurd (k (h .0 .kind))
 
 -- ---- by the rows that were read

@@ -32,8 +32,15 @@ module _ (row : ℕ) (w : List ℕ) where
 
 -- ---- what stands in a list of elements or members: in the first, or in those behind it
 
+-- the pointers of an element, and of a member, of a value whose pointer is `before`
+abbrev indexed : List ℕ → ℕ → List ℕ
+indexed before i = before ++ indexToken i
+
+abbrev named : List ℕ → List ℕ → ℕ → ℕ → List ℕ
+named s before f e = before ++ nameToken (nameOf s f e)
+
 module _ (s : List ℕ) (row : ℕ) (w : List ℕ) where
-  -- the value at `row` of those in the value at row r has the pointer w
+  -- of the values in that at row r, the one at `row` has the pointer w
   abbrev In : List ℕ → ℕ → Node → Type 0
   In before r n = Points row w (pointers s before r n)
 
@@ -43,26 +50,28 @@ module _ (s : List ℕ) (row : ℕ) (w : List ℕ) where
   abbrev InMembers : List ℕ → ℕ → Members → Type 0
   InMembers before r ms = Points row w (pointersMembers s before r ms)
 
-  all-ways : (before : List ℕ) (i r : ℕ) (n : Node) (ns : Nodes) → InAll before i r (more n ns) → In (before ++ indexToken i) r n ⊎ InAll before (i + 1) (r + size n) ns
-  all-ways before i r n ns h = points-ways row w (pointers s (before ++ indexToken i) r n) (pointersAll s before (i + 1) (r + size n) ns) h
+  all-ways : (before : List ℕ) (i r : ℕ) (n : Node) (ns : Nodes) → InAll before i r (more n ns)
+      → In (indexed before i) r n ⊎ InAll before (i + 1) (r + size n) ns
+  all-ways before i r n ns h = points-ways row w (pointers s (indexed before i) r n) (pointersAll s before (i + 1) (r + size n) ns) h
 
   members-ways : (before : List ℕ) (r f e : ℕ) (n : Node) (ms : Members) → InMembers before r (member f e n ms)
-      → In (before ++ nameToken (nameOf s f e)) (r + 1) n ⊎ InMembers before (r + 1 + size n) ms
-  members-ways before r f e n ms h = points-ways row w (pointers s (before ++ nameToken (nameOf s f e)) (r + 1) n) (pointersMembers s before (r + 1 + size n) ms) h
+      → In (named s before f e) (r + 1) n ⊎ InMembers before (r + 1 + size n) ms
+  members-ways before r f e n ms h = points-ways row w (pointers s (named s before f e) (r + 1) n) (pointersMembers s before (r + 1 + size n) ms) h
 
   -- ---- a chain ends at one of them
 
-  points-element : (before : List ℕ) {i r j c : ℕ} {m : Node} (ns : Nodes) → ElementAt i r ns j c m → In (before ++ indexToken j) c m → InAll before i r ns
+  points-element : (before : List ℕ) {i r j c : ℕ} {m : Node} (ns : Nodes) → ElementAt i r ns j c m → In (indexed before j) c m → InAll before i r ns
   points-element before {i} {r} (more n ns) element-first h =
-      points-left row w (pointers s (before ++ indexToken i) r n) (pointersAll s before (i + 1) (r + size n) ns) h
+      points-left row w (pointers s (indexed before i) r n) (pointersAll s before (i + 1) (r + size n) ns) h
   points-element before {i} {r} (more n ns) (element-later a) h =
-      points-right row w (pointers s (before ++ indexToken i) r n) (pointersAll s before (i + 1) (r + size n) ns) (points-element before ns a h)
+      points-right row w (pointers s (indexed before i) r n) (pointersAll s before (i + 1) (r + size n) ns) (points-element before ns a h)
 
-  points-member : (before : List ℕ) {r g k c : ℕ} {m : Node} (ms : Members) → MemberAt r ms g k c m → In (before ++ nameToken (nameOf s g k)) c m → InMembers before r ms
+  points-member : (before : List ℕ) {r g k c : ℕ} {m : Node} (ms : Members) → MemberAt r ms g k c m → In (named s before g k) c m
+      → InMembers before r ms
   points-member before {r} (member f e n ms) member-first h =
-      points-left row w (pointers s (before ++ nameToken (nameOf s f e)) (r + 1) n) (pointersMembers s before (r + 1 + size n) ms) h
+      points-left row w (pointers s (named s before f e) (r + 1) n) (pointersMembers s before (r + 1 + size n) ms) h
   points-member before {r} (member f e n ms) (member-later a) h =
-      points-right row w (pointers s (before ++ nameToken (nameOf s f e)) (r + 1) n) (pointersMembers s before (r + 1 + size n) ms) (points-member before ms a h)
+      points-right row w (pointers s (named s before f e) (r + 1) n) (pointersMembers s before (r + 1 + size n) ms) (points-member before ms a h)
 
   points-step : (before : List ℕ) {r c : ℕ} {n m : Node} {token : List ℕ} → StepTo s r n c m token → In (before ++ token) c m → In before r n
   points-step before (to-element {ns = ns} a) h = inr (points-element before ns a h)
@@ -93,13 +102,13 @@ module _ (s : List ℕ) (row : ℕ) (w : List ℕ) where
     range-all : (before : List ℕ) (i r : ℕ) (ns : Nodes) → InAll s row w before i r ns → (r ≤ row) × (row < r + sizes ns)
     range-all before i r none h = absurd h
     range-all before i r (more n ns) h =
-        ⊎-elim (λ x. omega (arith, range (before ++ indexToken i) r n x)) (λ x. omega (arith, range-all before (i + 1) (r + size n) ns x))
+        ⊎-elim (λ x. omega (arith, range (indexed before i) r n x)) (λ x. omega (arith, range-all before (i + 1) (r + size n) ns x))
         (all-ways s row w before i r n ns h)
 
     range-members : (before : List ℕ) (r : ℕ) (ms : Members) → InMembers s row w before r ms → (r ≤ row) × (row < r + sizesMembers ms)
     range-members before r no-member h = absurd h
     range-members before r (member f e n ms) h =
-        ⊎-elim (λ x. omega (arith, range (before ++ nameToken (nameOf s f e)) (r + 1) n x)) (λ x. omega (arith, range-members before (r + 1 + size n) ms x))
+        ⊎-elim (λ x. omega (arith, range (named s before f e) (r + 1) n x)) (λ x. omega (arith, range-members before (r + 1 + size n) ms x))
         (members-ways s row w before r f e n ms h)
 
 -- ---- one pointer for a row
@@ -122,7 +131,7 @@ module _ (s : List ℕ) (row : ℕ) (v w : List ℕ) where
     one-all : (before : List ℕ) (i r : ℕ) (ns : Nodes) → InAll s row v before i r ns → InAll s row w before i r ns → v ≡ w
     one-all before i r none g h = absurd g
     one-all before i r (more n ns) g h =
-        let b = before ++ indexToken i in
+        let b = indexed before i in
         ⊎-elim
         (λ x. ⊎-elim (λ y. one b r n x y)
         (λ y. absurd (omega (arith, range s row v b r n x, range-all s row w before (i + 1) (r + size n) ns y))) (all-ways s row w before i r n ns h))
@@ -133,7 +142,7 @@ module _ (s : List ℕ) (row : ℕ) (v w : List ℕ) where
     one-members : (before : List ℕ) (r : ℕ) (ms : Members) → InMembers s row v before r ms → InMembers s row w before r ms → v ≡ w
     one-members before r no-member g h = absurd g
     one-members before r (member f e n ms) g h =
-        let b = before ++ nameToken (nameOf s f e) in
+        let b = named s before f e in
         ⊎-elim
         (λ x. ⊎-elim (λ y. one b (r + 1) n x y)
         (λ y. absurd (omega (arith, range s row v b (r + 1) n x, range-members s row w before (r + 1 + size n) ms y))) (members-ways s row w before r f e n ms h))
@@ -145,7 +154,8 @@ pub one-pointer : (s : List ℕ) (n : Node) (row : ℕ) (v w : List ℕ) → Poi
 one-pointer s n row v w g h = one s row v w [] 0 n g h
 
 -- what is written is the pointer of the row that the list begins with
-pub pointer-written : {s t path : List ℕ} (d : PointerReady s t path) {k : ℕ} {out out₂ : List ℕ} → Puts (d .bytes) 0 k out out₂ → PointerWritten s t path k out out₂
+pub pointer-written : {s t path : List ℕ} (d : PointerReady s t path) {k : ℕ} {out out₂ : List ℕ} → Puts (d .bytes) 0 k out out₂
+    → PointerWritten s t path k out out₂
 pointer-written {s} {t} d p = record {
   tells = λ n h row around e w q.
       let same : d .tree ≡ n = holds-same t 0 (d .tree) n (d .holds) h in

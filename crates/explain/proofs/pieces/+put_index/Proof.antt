@@ -33,6 +33,11 @@ module _ (t : ℕ) where
   abbrev others : At put-index-lts.After-put2 t → At put-index-lts.After-put-index t
   others c = c .before .before .before .before
 
+  behind-others : At put-index-lts.Need-returns-2 t
+  behind-others c =
+      let b = c .before .before in
+      puts-as (decimal-large _ (omega arith)) (puts-append (others b .put-index .ensures) (b .put2 .ensures))
+
 pub +put-index-spec : {M : Type 1} → statement M
 +put-index-spec = close μ-put-index λ t. put-index-lts.spec (claims t) (at t) put-index.Post
     (λ c. omega arith)  -- (index % 10) as u8
@@ -43,4 +48,4 @@ pub +put-index-spec : {M : Type 1} → statement M
     (λ c κs. (omega arith, omega arith))  -- put-index-requires
     (λ c κs. omega (arith, decimal-near (c .before .before .before .put-index .ensures) (omega arith)))  -- put-requires-2
     (λ c. search needs)  -- same-length-2
-    (λ c. let b = c .before .before in puts-as (decimal-large _ (omega arith)) (puts-append (others t b .put-index .ensures) (b .put2 .ensures)))  -- more digits
+    (λ c. behind-others t c)  -- more digits

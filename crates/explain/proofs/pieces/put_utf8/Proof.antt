@@ -13,6 +13,16 @@ of-three c = c .before .before .before .before
 abbrev of-four : tie.After-put-two4 → tie.After-put-two3
 of-four c = c .before .before .before .before
 
+three : tie.Need-returns-3
+three c =
+    let b = c .before .before in
+    puts-as (utf8-three _ (omega arith) (omega arith)) (puts-append (of-three b .put-two2 .ensures) (b .put2 .ensures))
+
+four : tie.Need-returns-4
+four c =
+    let b = c .before .before in
+    puts-as (utf8-four _ (omega arith)) (puts-append (of-four b .put-two3 .ensures) (b .put-two4 .ensures))
+
 pub put-utf8-spec : {M : Type 1} → statement M
 put-utf8-spec = tie.close (tie.spec
     (λ c. search needs)  -- c as u8
@@ -33,7 +43,7 @@ put-utf8-spec = tie.close (tie.spec
     (λ c κs. search needs)  -- put-two-requires-2
     (λ c κs. search needs)  -- put-requires-2
     (λ c. search needs)  -- same-length-3
-    (λ c. let b = c .before .before in puts-as (utf8-three _ (omega arith) (omega arith)) (puts-append (of-three b .put-two2 .ensures) (b .put2 .ensures)))  -- three bytes
+    three
     (λ c. search needs)  -- (c / 262144) as u8
     (λ c. search needs)  -- first
     (λ c. search needs)  -- (c / 4096 % 64) as u8
@@ -41,4 +51,4 @@ put-utf8-spec = tie.close (tie.spec
     (λ c κs. search needs)  -- put-two-requires-3
     (λ c κs. search needs)  -- put-two-requires-4
     (λ c. search needs)  -- same-length-4
-    (λ c. let b = c .before .before in puts-as (utf8-four _ (omega arith)) (puts-append (of-four b .put-two3 .ensures) (b .put-two4 .ensures))))  -- four bytes
+    four)

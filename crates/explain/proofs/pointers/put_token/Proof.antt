@@ -23,6 +23,12 @@ array c = c .before .before
 name : (c : tie.Then1) → let d = start (slash (object c)) in Named (d .args .text .now) (d .args .table .now) (d .args .child) (d .pre .step .token)
 name c = let p = object c in step-name (start (slash p) .pre .step) (p .row-at .ensures) (c .if1 .taken)
 
+name-ready : tie.Need-put-name-requires
+name-ready c κs =
+    let n = c .before .before in
+    let d = slash (object (n .before)) in
+    (body-short _ (n .row-at2 .result) (c .between .ensures) (start d .pre .short), omega (arith, d .put .ensures .next, start d .pre .place))
+
 by-name : tie.Need-returns
 by-name c =
     let b = c .before .before .before in
@@ -33,12 +39,20 @@ by-name c =
           (c .before .before .put-name .ensures);
     }
 
+element : tie.Need-index-of-requires
+element c κs =
+    let e = c .before in
+    let p = array e in
+    step-element (start (slash p) .pre .step) (p .row-at .ensures) (e .if1 .left) .element
+
 by-index : tie.Need-returns-2
 by-index c =
     let i = c .before .before .before in
     let e = i .before .before in
     let p = array e in
-    record { tells = λ d. put-indexed d (p .row-at .ensures) (slash p .put .ensures) (e .if1 .left) (i .index-of .ensures) (c .before .before .put-index .ensures) }
+    record {
+      tells = λ d. put-indexed d (p .row-at .ensures) (slash p .put .ensures) (e .if1 .left) (i .index-of .ensures) (c .before .before .put-index .ensures);
+    }
 
 pub put-token-spec : {M : Type 1} → statement M
 put-token-spec = tie.close (tie.spec
@@ -47,11 +61,10 @@ put-token-spec = tie.close (tie.spec
     (λ c. omega (arith, name c .behind))  -- child - 1
     (λ c κs. name c .in-table)  -- row-at-requires-2
     (λ c κs. let r = c .before in quotes-read (r .row-at2 .ensures) (name (r .before) .quoted))  -- between-requires
-    (λ c κs. let d = slash (object (c .before .before .before)) in
-    (body-short _ (c .before .before .row-at2 .result) (c .between .ensures) (start d .pre .short), omega (arith, d .put .ensures .next, start d .pre .place)))  -- put-name-requires
+    name-ready
     (λ c. search needs)  -- same-length
     by-name
-    (λ c κs. let e = c .before in let p = array e in step-element (start (slash p) .pre .step) (p .row-at .ensures) (e .if1 .left) .element)  -- index-of-requires
+    element
     (λ c κs. search needs)  -- put-index-requires
     (λ c. search needs)  -- same-length-2
     by-index)

@@ -31,13 +31,14 @@ again : tie.Need-loop-again Inv μ
 again c d =
     let p = c .before .before in
     let t = turn (p .before) in
-    walked-next (t .before .loop .inv d) (t .loop-test .taken) (d .short) (omega (arith, p .before .before .shared-slice-known5 .given (t .before .loop .i - 1)))
-    (p .put-token .ensures)
+    let b = p .before .before .shared-slice-known5 .given (t .before .loop .i - 1) in
+    walked-next (t .before .loop .inv d) (t .loop-test .taken) (d .short) (omega arith) (p .put-token .ensures)
 
 ready : tie.Need-put-token-requires Inv μ
 ready c κs =
     let t = turn c in
-    walked-ready (walked (t .before)) (t .loop-test .taken) (start (t .before) .pre .short) (omega (arith, c .before .shared-slice-known5 .given (t .before .loop .i)))
+    let b = c .before .shared-slice-known5 .given (t .before .loop .i) in
+    walked-ready (walked (t .before)) (t .loop-test .taken) (start (t .before) .pre .short) (omega arith)
 
 pub write-pointer-spec : {M : Type 1} → statement M
 write-pointer-spec = tie.close (tie.spec Inv μ
