@@ -7,7 +7,7 @@ use Rattle.tokens.specs.Parse.{Parse, refused, parsed}
 use Rattle.syntax.specs.Tree.{Node}
 use Rattle.syntax.proofs.Examples.{within}
 use Rattle.grammar.specs.Utf8.{utf8}
-use Rattle.explain.specs.Pointers.{tokenChar, digits, decimal, nameToken, Pointer, pointer, pointers, fitted}
+use Rattle.explain.specs.Pointers.{tokenChar, digits, decimal, Pointer, pointer, pointers, fitted}
 
 -- the pointers of the values of a text that is read
 abbrev pointersIn : List ℕ → Parse Node → List Pointer

@@ -1,2 +1,3 @@
--- What is proved of pointers, with computed examples; the laws of each module are in its folder.
+-- Computed examples, and what the crates above cite; the laws of each module are in its folder.
 pub mod Examples
+pub mod Facts

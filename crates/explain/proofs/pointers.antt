@@ -2,3 +2,4 @@ pub mod Elements
 pub mod Steps
 pub mod Chains
 pub mod Values
+pub mod Paths

@@ -1,7 +1,8 @@
--- For private contracts: bytes that are put into a buffer from a place on, and the way from a value of a text to one inside it, by rows.
+-- For private contracts: bytes that are put into a buffer from a place on, and a step from a value of a text to one inside it, by rows.
 use Prim.Native.Nat.{ℕ, _+_, _≤_}
 use mathlib.Core.Path.{_≡_}
-use mathlib.Core.List.{List, [], _∷_, _++_}
+use mathlib.Core.Logic.{_⊎_}
+use mathlib.Core.List.{List, [], _∷_}
 use lib.ListN.{length}
 use lib.Seq.{sets}
 use Rattle.syntax.specs.Tree.{Node, array, object, Nodes, more, Members, member}
@@ -9,6 +10,7 @@ use Rattle.syntax.specs.Rows.{size}
 use Rattle.syntax.specs.Grammar.{nameOf}
 use Rattle.syntax.specs.Holding.{Holds, HoldsAll, Placed}
 use Rattle.rows.specs.Records.{Rowed}
+use Rattle.schema.specs.Paths.{Path, paths}
 use Rattle.explain.specs.Pointers.{nameToken, indexToken}
 
 -- ---- bytes in a buffer
@@ -42,13 +44,6 @@ pub data StepTo (s : List ℕ) : ℕ → Node → ℕ → Node → List ℕ → 
   to-element : {r f e j c : ℕ} {ns : Nodes} {m : Node} → ElementAt 0 (r + 1) ns j c m → StepTo s r (array f e ns) c m (indexToken j)
   to-member : {r f e g h c : ℕ} {ms : Members} {m : Node} → MemberAt (r + 1) ms g h c m → StepTo s r (object f e ms) c m (nameToken (nameOf s g h))
 
--- from the value at row r, around which stand those of the rows `around`, steps lead to one with the rows `rows`, its own and those around it; `before` is
--- the pointer of the first, w that of the last
-pub data Chain (s : List ℕ) : ℕ → Node → List ℕ → List ℕ → List ℕ → List ℕ → Type 0 where
-  here : {r : ℕ} {n : Node} {around before : List ℕ} → Chain s r n around (r ∷ around) before before
-  inside : {r c : ℕ} {n m : Node} {around rows before token w : List ℕ} → StepTo s r n c m token → Chain s c m (r ∷ around) rows (before ++ token) w
-      → Chain s r n around rows before w
-
 -- ---- contracts
 
 -- the element at row c in the array at row r
@@ -78,11 +73,14 @@ pub record TokenReady (s t : List ℕ) (r c i : ℕ) : Type 0 where
 pub record TokenPut (s t : List ℕ) (r c i k : ℕ) (out out₂ : List ℕ) : Type 0 where
   pub tells : (d : StepRow s t r c) → Puts (d .token) i k out out₂
 
--- `path` has the rows of a value and of those around it
+-- one of these has the rows `rows`: its own, and then those around it
+abbrev pub HasRows : List ℕ → List Path → Type 0
+HasRows rows [] = ⊥
+HasRows rows (p ∷ ps) = (rows ≡ p .row ∷ p .around) ⊎ HasRows rows ps
+
 pub record PointerReady (s t path : List ℕ) : Type 0 where
   pub tree : Node
   pub holds : Holds t 0 tree
   pub placed : Placed s tree
   pub short : length s ≤ 65536
-  pub bytes : List ℕ
-  pub chain : Chain s 0 tree [] path [] bytes
+  pub has : HasRows path (paths [] 0 tree)

@@ -10,7 +10,7 @@ use Rattle.syntax.specs.Tree.{Node, array, object, Nodes, more, Members, member
 use Rattle.syntax.specs.Holding.{Holds, HoldsAll, HoldsMembers, Placed, PlacedAll, PlacedMembers}
 use Rattle.syntax.proofs.Facts.{size-pos}
 use Rattle.explain.specs.Writing.{Puts, ElementAt, element-first, element-later, MemberAt, member-first, member-later, StepTo, to-element, to-member}
-use Rattle.explain.specs.Writing.{Chain, here, inside, StepRow, TokenReady, TokenPut, PointerReady}
+use Rattle.explain.specs.Writing.{StepRow, TokenReady, TokenPut}
 use Rattle.explain.proofs.pieces.Buffers.{puts-none, puts-append, puts-as}
 use Rattle.explain.proofs.pieces.Decimals.{decimal-few}
 use Rattle.explain.proofs.pieces.Names.{name-short}
@@ -67,8 +67,16 @@ pub step-short : {s : List ℕ} {r c : ℕ} {n m : Node} {w : List ℕ} → Step
 step-short (to-element {j = j} a) l b = omega (arith, decimal-few j (omega (arith, element-few a)))
 step-short {s} (to-member {g = g} {h = h} a) l b = omega (arith, name-short (part s (g + 1) (h - 1)), part-short s (g + 1) (h - 1))
 
--- ---- a chain of steps: `rows` are those of the steps, from the last to the first, before r and those around
+-- ---- a chain of steps
 
+-- from the value at row r, around which stand those of the rows `around`, steps lead to one with the rows `rows`, its own and those around it; `before` is
+-- the pointer of the first, w that of the last
+pub data Chain (s : List ℕ) : ℕ → Node → List ℕ → List ℕ → List ℕ → List ℕ → Type 0 where
+  here : {r : ℕ} {n : Node} {around before : List ℕ} → Chain s r n around (r ∷ around) before before
+  inside : {r c : ℕ} {n m : Node} {around rows before token w : List ℕ} → StepTo s r n c m token → Chain s c m (r ∷ around) rows (before ++ token) w
+      → Chain s r n around rows before w
+
+-- these are the rows of the steps, from the last to the first, before r and those around it
 chain-front : {s : List ℕ} {r : ℕ} {n : Node} {around rows before w : List ℕ} → Chain s r n around rows before w
     → (front : List ℕ) × (rows ≡ front ++ (r ∷ around))
 chain-front here = ([], refl)
@@ -124,8 +132,17 @@ pub record Walked (s t path w before : List ℕ) (i at : ℕ) (out : List ℕ) :
   pub puts : Puts done 0 at before out
   pub few : at ≤ longest * length around
 
+-- a list of rows for which there is a chain from the top
+pub record Chained (s t path : List ℕ) : Type 0 where
+  pub tree : Node
+  pub holds : Holds t 0 tree
+  pub placed : Placed s tree
+  pub short : length s ≤ 65536
+  pub bytes : List ℕ
+  pub chain : Chain s 0 tree [] path [] bytes
+
 -- at the top
-pub walked-start : {s t path : List ℕ} (d : PointerReady s t path) (out : List ℕ) → Walked s t path (d .bytes) out (length path - 1) 0 out
+pub walked-start : {s t path : List ℕ} (d : Chained s t path) (out : List ℕ) → Walked s t path (d .bytes) out (length path - 1) 0 out
 walked-start {s} {t} {path} d out =
     let e : length path - 1 + 1 + 0 ≡ length path = omega (arith, chain-long (d .chain)) in
     let q : getD path (length path - 1) 0 ≡ 0 = chain-at (d .chain) (length path - 1) e in

@@ -10,8 +10,8 @@ use Rattle.syntax.specs.Grammar.{nameOf}
 use Rattle.syntax.proofs.Facts.{holds-same}
 use Rattle.explain.specs.Pointers.{nameToken, indexToken, Pointer, pointers, pointersAll, pointersMembers, Points, PointerWritten}
 use Rattle.explain.specs.Writing.{Puts, ElementAt, element-first, element-later, MemberAt, member-first, member-later, StepTo, to-element, to-member}
-use Rattle.explain.specs.Writing.{Chain, here, inside, PointerReady}
 use Rattle.explain.proofs.pieces.Buffers.{puts-fitted, puts-as}
+use Rattle.explain.proofs.pointers.Chains.{Chain, here, inside, Chained}
 
 -- ---- among two lists
 
@@ -154,7 +154,7 @@ pub one-pointer : (s : List ℕ) (n : Node) (row : ℕ) (v w : List ℕ) → Poi
 one-pointer s n row v w g h = one s row v w [] 0 n g h
 
 -- what is written is the pointer of the row that the list begins with
-pub pointer-written : {s t path : List ℕ} (d : PointerReady s t path) {k : ℕ} {out out₂ : List ℕ} → Puts (d .bytes) 0 k out out₂
+pub pointer-written : {s t path : List ℕ} (d : Chained s t path) {k : ℕ} {out out₂ : List ℕ} → Puts (d .bytes) 0 k out out₂
     → PointerWritten s t path k out out₂
 pointer-written {s} {t} d p = record {
   tells = λ n h row around e w q.

@@ -2,15 +2,15 @@
 -- on from there.
 use Prim.Native.Nat.{_-_}
 use native.Mathlib.Omega.{arith}
-use Rattle.explain.specs.Writing.{PointerReady}
 use Rattle.explain.proofs.pieces.Buffers.{puts-length}
-use Rattle.explain.proofs.pointers.Chains.{chain-long, Walked, walked-start, walked-end, walked-ready, walked-next}
+use Rattle.explain.proofs.pointers.Chains.{chain-long, Chained, Walked, walked-start, walked-end, walked-ready, walked-next}
 use Rattle.explain.proofs.pointers.Values.{pointer-written}
+use Rattle.explain.proofs.pointers.Paths.{chained}
 use Rattle.explain.proofs.pointers.write_pointer.Statement.{statement}
 use Rattle.explain.proofs.pointers.write_pointer.Tie as tie
 
 abbrev Inv : tie.InvT-loop
-Inv text table path out₀ at₀ i₀ out at i = (d : PointerReady text table path) → Walked text table path (d .bytes) out₀ i at out
+Inv text table path out₀ at₀ i₀ out at i = (d : Chained text table path) → Walked text table path (d .bytes) out₀ i at out
 
 abbrev μ : tie.MeasureT-loop
 μ text table path out₀ at₀ i₀ out at i = i
@@ -23,9 +23,12 @@ start c = c .before .before .before .before .before
 abbrev turn : tie.After-put-token-arg Inv μ → tie.In-loop Inv μ
 turn c = c .before .before .before
 
+steps : (c : tie.Start Inv μ) → Chained (c .args .text .now) (c .args .table .now) (c .args .path .now)
+steps c = chained (c .pre)
+
 abbrev walked : (c : tie.At-loop Inv μ) → let a = start c .args in
-    Walked (a .text .now) (a .table .now) (a .path .now) (start c .pre .bytes) (a .out .now) (c .loop .i) (c .loop .at) (c .loop .out)
-walked c = c .loop .inv (start c .pre)
+    Walked (a .text .now) (a .table .now) (a .path .now) (steps (start c) .bytes) (a .out .now) (c .loop .i) (c .loop .at) (c .loop .out)
+walked c = c .loop .inv (steps (start c))
 
 again : tie.Need-loop-again Inv μ
 again c d =
@@ -38,11 +41,11 @@ ready : tie.Need-put-token-requires Inv μ
 ready c κs =
     let t = turn c in
     let b = c .before .shared-slice-known5 .given (t .before .loop .i) in
-    walked-ready (walked (t .before)) (t .loop-test .taken) (start (t .before) .pre .short) (omega arith)
+    walked-ready (walked (t .before)) (t .loop-test .taken) (steps (start (t .before)) .short) (omega arith)
 
 pub write-pointer-spec : {M : Type 1} → statement M
 write-pointer-spec = tie.close (tie.spec Inv μ
-    (λ c. omega (arith, chain-long (c .before .before .before .before .pre .chain)))  -- path.len() - 1
+    (λ c. omega (arith, chain-long (steps (c .before .before .before .before) .chain)))  -- path.len() - 1
     (λ c d. walked-start d _)  -- loop-holds
     (λ c. omega (arith, walked (c .before) .place))  -- path[i], within the slice and as a usize
     (λ c. omega (arith, walked (c .before .before) .place))
@@ -55,4 +58,4 @@ write-pointer-spec = tie.close (tie.spec Inv μ
     (λ c. omega arith)  -- loop-less
     again
     (λ c. puts-length (walked-end (walked (c .before)) (c .loop-test .left)))  -- same-length
-    (λ c. pointer-written (start (c .before) .pre) (walked-end (walked (c .before)) (c .loop-test .left))))  -- returns
+    (λ c. pointer-written (steps (start (c .before))) (walked-end (walked (c .before)) (c .loop-test .left))))  -- returns
