@@ -1,6 +1,5 @@
 -- What the crates above cite.
 
--- a path of Check has the rows of a value
-pub use Rattle.explain.proofs.pointers.Paths.{picked-rows}
--- a row has one pointer
+-- a document that was read: the path to a value can be asked for, and has a pointer; a row has one
+pub use Rattle.explain.proofs.pointers.Documents.{read-ready, place-ready, PointerOf, pointer-of}
 pub use Rattle.explain.proofs.pointers.Values.{one-pointer}

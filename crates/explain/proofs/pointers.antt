@@ -3,3 +3,4 @@ pub mod Steps
 pub mod Chains
 pub mod Values
 pub mod Paths
+pub mod Documents

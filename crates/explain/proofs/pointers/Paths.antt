@@ -26,6 +26,11 @@ module _ (rows : List ℕ) where
   rows-ways (p ∷ ps) qs (inl e) = inl (inl e)
   rows-ways (p ∷ ps) qs (inr h) = ⊎-elim (λ x. inl (inr x)) (λ x. inr x) (rows-ways ps qs h)
 
+  pub rows-first : (ps : List Path) → HasRows rows ps → (row : ℕ) × (around : List ℕ) × (rows ≡ row ∷ around)
+  rows-first [] h = absurd h
+  rows-first (p ∷ ps) (inl e) = (p .row, p .around, e)
+  rows-first (p ∷ ps) (inr h) = rows-first ps h
+
 -- ---- a chain to them, from a value, from its elements and from its members
 
 pub record From (s : List ℕ) (r : ℕ) (n : Node) (around rows before : List ℕ) : Type 0 where
@@ -52,7 +57,7 @@ module _ (s rows : List ℕ) where
   itself r n around before e = rw e record { bytes = before; chain = here }
 
   mutual
-    from : (around before : List ℕ) (r : ℕ) (n : Node) → HasRows rows (paths around r n) → From s r n around rows before
+    pub from : (around before : List ℕ) (r : ℕ) (n : Node) → HasRows rows (paths around r n) → From s r n around rows before
     from around before r (scalar k f e) (inl q) = itself r (scalar k f e) around before q
     from around before r (scalar k f e) (inr h) = absurd h
     from around before r (array f e ns) (inl q) = itself r (array f e ns) around before q
