@@ -1,5 +1,5 @@
 -- The JSON Pointer of each value of a text (RFC 6901), and what a lent buffer gets of one.
-use Prim.Native.Nat.{ℕ, zero, suc, _+_, _/_, _%_}
+use Prim.Native.Nat.{ℕ, zero, suc, _+_, _/_, _%_, _≤_}
 use mathlib.Core.Path.{_≡_}
 use mathlib.Core.Logic.{_⊎_}
 use mathlib.Core.Bool.{cond}
@@ -10,7 +10,8 @@ use Rattle.grammar.specs.Utf8.{utf8}
 use Rattle.syntax.specs.Tree.{Node, scalar, array, object, Nodes, none, more, Members, no-member, member}
 use Rattle.syntax.specs.Rows.{size}
 use Rattle.syntax.specs.Grammar.{nameOf}
-use Rattle.syntax.specs.Holding.{Holds}
+use Rattle.syntax.specs.Holding.{Holds, Placed}
+use Rattle.schema.specs.Paths.{Path, paths}
 
 -- ---- reference tokens
 
@@ -79,7 +80,22 @@ fitted [] out = out
 fitted (b ∷ bs) [] = []
 fitted (b ∷ bs) (o ∷ os) = b ∷ fitted bs os
 
--- the pointer of the value with the rows `path`, its own and then those around it, is written, and k tells its length, whether or not it fits
+-- ---- the contract of `write_pointer`
+
+-- one of these values has the rows `rows`: its own, and then those around it
+abbrev pub HasRows : List ℕ → List Path → Type 0
+HasRows rows [] = ⊥
+HasRows rows (p ∷ ps) = (rows ≡ p .row ∷ p .around) ⊎ HasRows rows ps
+
+-- the table has the rows of a value of the text, and `path` those of one that stands in it
+pub record PointerReady (s t path : List ℕ) : Type 0 where
+  pub tree : Node
+  pub holds : Holds t 0 tree
+  pub placed : Placed s tree
+  pub short : length s ≤ 65536
+  pub has : HasRows path (paths [] 0 tree)
+
+-- what fits of the pointer of that value is written, and k is its length, whether or not it fits
 pub record PointerWritten (s t path : List ℕ) (k : ℕ) (out out₂ : List ℕ) : Type 0 where
   pub tells : (n : Node) → Holds t 0 n → (row : ℕ) (around : List ℕ) → path ≡ row ∷ around → (w : List ℕ) → Points row w (pointers s [] 0 n)
       → (k ≡ length w) × (out₂ ≡ fitted w out)

@@ -1,16 +1,14 @@
 -- For private contracts: bytes that are put into a buffer from a place on, and a step from a value of a text to one inside it, by rows.
 use Prim.Native.Nat.{ℕ, _+_, _≤_}
 use mathlib.Core.Path.{_≡_}
-use mathlib.Core.Logic.{_⊎_}
-use mathlib.Core.List.{List, [], _∷_}
+use mathlib.Core.List.{List}
 use lib.ListN.{length}
 use lib.Seq.{sets}
 use Rattle.syntax.specs.Tree.{Node, array, object, Nodes, more, Members, member}
 use Rattle.syntax.specs.Rows.{size}
 use Rattle.syntax.specs.Grammar.{nameOf}
-use Rattle.syntax.specs.Holding.{Holds, HoldsAll, Placed}
+use Rattle.syntax.specs.Holding.{HoldsAll}
 use Rattle.rows.specs.Records.{Rowed}
-use Rattle.schema.specs.Paths.{Path, paths}
 use Rattle.explain.specs.Pointers.{nameToken, indexToken}
 
 -- ---- bytes in a buffer
@@ -72,15 +70,3 @@ pub record TokenReady (s t : List ℕ) (r c i : ℕ) : Type 0 where
 
 pub record TokenPut (s t : List ℕ) (r c i k : ℕ) (out out₂ : List ℕ) : Type 0 where
   pub tells : (d : StepRow s t r c) → Puts (d .token) i k out out₂
-
--- one of these has the rows `rows`: its own, and then those around it
-abbrev pub HasRows : List ℕ → List Path → Type 0
-HasRows rows [] = ⊥
-HasRows rows (p ∷ ps) = (rows ≡ p .row ∷ p .around) ⊎ HasRows rows ps
-
-pub record PointerReady (s t path : List ℕ) : Type 0 where
-  pub tree : Node
-  pub holds : Holds t 0 tree
-  pub placed : Placed s tree
-  pub short : length s ≤ 65536
-  pub has : HasRows path (paths [] 0 tree)
