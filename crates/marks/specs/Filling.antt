@@ -4,7 +4,7 @@ use mathlib.Core.Path.{_≡_}
 use mathlib.Core.Bool.{cond}
 use mathlib.Core.List.{List, [], _∷_, _++_}
 use lib.ListN.{length, getD, take}
-use lib.Dec.{ltb}
+use lib.Dec.{ltb, eqb}
 use Rattle.syntax.specs.Rows.{layOut}
 use Rattle.marks.specs.Marks.{markEntry, markEntries}
 
@@ -25,6 +25,10 @@ markSize ms k = markEntry (getD ms k 0) .rows
 -- the words of the first k marks' rows
 abbrev pub markWords : List ℕ → ℕ → List ℕ
 markWords ms k = layOut (markEntries (take k ms)) (parentsTo (markSize ms) k)
+
+-- where to go on behind a row that ends at `last`, in row `parent`, which ends at `end`: there, or where that is gone on from
+abbrev pub onward : List ℕ → ℕ → ℕ → ℕ → ℕ
+onward ms last parent end = cond (eqb last end) (getD ms parent 0) parent
 
 -- the first k marks are those of a tree: the top has all rows, and the subtree of each ends in that of the row that it stands in
 pub record FillReady (ms : List ℕ) (k : ℕ) : Type 0 where

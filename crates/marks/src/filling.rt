@@ -7,11 +7,11 @@ use syntax::ROW_WORDS;
 use syntax::word;
 ghost use mathlib.Core.Path.{_≡_};
 ghost use Prim.Native.Nat.{_+_, _*_, _≤_, _<_, _^_};
-ghost use lib.ListN.{length};
+ghost use lib.ListN.{length, set};
 ghost use lib.Seq.{sets};
 ghost use Rattle.syntax.specs.Rows.{rowWords, entry, row as rowOf};
 ghost use Rattle.marks.specs.Marks.{markEntry};
-ghost use Rattle.marks.specs.Filling.{markWords, FillReady};
+ghost use Rattle.marks.specs.Filling.{markWords, FillReady, onward};
 
 // Writes a row.
 fn put(
@@ -68,8 +68,20 @@ fn put_mark(table: &mut [u32], row: usize, mark: u64, parent: usize) -> usize
     rows
 }
 
-// Writes the rows of the first marks. `parent` is the array or object whose rows are being written, and `end` the row behind them. Once a row is
-// written its mark makes way for where to go on behind its subtree: in the nearest array or object around it that ends later.
+// The mark of an array or object whose row is written makes way for the row of the nearest one around it that ends later: there one goes on behind
+// its last row. It stands in row `parent`, which ends at `end`.
+fn turn(marks: &mut [u64], row: usize, last: usize, parent: usize, end: usize)
+    requires { ⌜ (row < length (now marks)) × (parent < length (now marks)) ⌝ }
+    ensures { λ _. ⌜ now (marks .exit) ≡ set (now (marks .entry)) row (onward (now (marks .entry)) last parent end) ⌝ }
+{
+    let mut around = parent as u64;
+    if last == end {
+        around = marks[parent];
+    }
+    marks[row] = around;
+}
+
+// Writes the rows of the first marks. `parent` is the array or object whose rows are being written, and `end` the row behind them.
 pub fn fill(marks: &mut [u64], table: &mut [u32], rows: usize)
     requires { ⌜ FillReady (now marks) rows × (rowWords * rows ≤ length (now table)) ⌝ }
     ensures { λ _. ⌜ now (table .exit) ≡ sets (now (table .entry)) 0 (markWords (now (marks .entry)) rows) ⌝ }
@@ -83,15 +95,10 @@ pub fn fill(marks: &mut [u64], table: &mut [u32], rows: usize)
             end = parent + word(table, parent, 4) as usize;
         }
         let inner = put_mark(table, row, marks[row], parent);
-        let last = row + inner;
-        let mut onward = parent as u64;
-        if last == end {
-            onward = marks[parent];
-        }
-        marks[row] = onward;
         if inner > 1 {
+            turn(marks, row, row + inner, parent, end);
             parent = row;
-            end = last;
+            end = row + inner;
         }
         row += 1;
     }

@@ -15,7 +15,7 @@ use Rattle.syntax.specs.Rows.{Entry, rowWords, row, layOut}
 use Rattle.syntax.specs.Holding.{word}
 use Rattle.syntax.proofs.Facts.{noEntry, laid-length, laid-word}
 use Rattle.marks.specs.Marks.{markEntry, markEntries}
-use Rattle.marks.specs.Filling.{lastOpen, parentsTo, markSize, markWords, FillReady}
+use Rattle.marks.specs.Filling.{lastOpen, parentsTo, markSize, markWords, FillReady, onward}
 use Rattle.marks.proofs.marks.Laws.{entries-none, entries-cons, entries-append, marks-length, marks-at}
 
 pub sets-append : (xs ys l : List ℕ) (i : ℕ) → sets l i (xs ++ ys) ≡ sets (sets l i xs) (i + length xs) ys
@@ -157,11 +157,11 @@ module _ (ms : List ℕ) where
 -- ---- the row that is being filled
 
 module _ (ms : List ℕ) (rows : ℕ) where
-  -- behind the subtree of row j one goes on in the last row before it that is open there
+  -- behind an array or object at row j one goes on in the last row before it that is open there
   abbrev Onward : List ℕ → ℕ → Type 0
-  Onward now j = j + markSize ms j < rows → getD now j 0 ≡ lastOpen (markSize ms) (j + markSize ms j) j
+  Onward now j = 1 < markSize ms j → j + markSize ms j < rows → getD now j 0 ≡ lastOpen (markSize ms) (j + markSize ms j) j
 
-  -- the marks are read up to row k, and say where to go on; row `parent`, which ends at `end`, is the last that is not behind k
+  -- the marks are read up to row k, and those of arrays and objects say where to go on; row `parent`, one of these, ends at `end`
   pub record Filling (now : List ℕ) (k parent end : ℕ) : Type 0 where
     pub same : length now ≡ length ms
     pub ahead : (j : ℕ) → k ≤ j → getD now j 0 ≡ getD ms j 0
@@ -170,6 +170,11 @@ module _ (ms : List ℕ) (rows : ℕ) where
     pub ends : end ≡ parent + markSize ms parent
     pub inside : k ≤ end
     pub closed : (j : ℕ) → parent < j → j < k → j + markSize ms j ≤ k
+    pub list : 0 < k → 1 < markSize ms parent
+
+  pub filling-same : {now now₂ : List ℕ} {k parent parent₂ end end₂ : ℕ} → now ≡ now₂ → parent ≡ parent₂ → end ≡ end₂ → Filling now₂ k parent₂ end₂
+      → Filling now k parent end
+  filling-same a b c f = rw (a, b, c) f
 
   pub filling-begins : FillReady ms rows → 0 < rows → Filling ms 0 0 rows
   filling-begins h l = record {
@@ -180,6 +185,7 @@ module _ (ms : List ℕ) (rows : ℕ) where
     ends = omega (arith, h .top l);
     inside = omega arith;
     closed = λ j b c. absurd (omega arith);
+    list = λ z. absurd (omega arith);
   }
 
   -- row k stands in row `parent`, which ends at `end`
@@ -207,7 +213,7 @@ module _ (ms : List ℕ) (rows : ℕ) where
       goes-up : getD now parent 0 ≡ lastOpen (markSize ms) k parent
       goes-up =
           let q : parent + markSize ms parent ≡ k = omega (arith, f .ends) in
-          rw q at (f .onward parent ended (omega arith))
+          rw q at (f .onward parent ended (f .list (omega (arith, ended))) (omega arith))
 
       module _ {up : ℕ} (u : up ≡ getD now parent 0) where
         is-last : up ≡ lastOpen (markSize ms) k parent
@@ -235,7 +241,10 @@ module _ (ms : List ℕ) (rows : ℕ) where
         }
 
     -- row k is written, and its mark makes way
-    module _ {p e : ℕ} (s : Standing k p e) {o : ℕ} (same-end : k + markSize ms k ≡ e → o ≡ getD now p 0) (other-end : (k + markSize ms k ≡ e → ⊥) → o ≡ p) where
+    module _ {p e : ℕ} (s : Standing k p e) where
+      abbrev o : ℕ
+      o = onward now (k + markSize ms k) p e
+
       within-parent : k + markSize ms k ≤ e
       within-parent = let q = standing-is s in omega (arith, s .ends, rw (← q) at (h .nests k l))
 
@@ -252,39 +261,47 @@ module _ (ms : List ℕ) (rows : ℕ) where
           (λ y. let q = eqb-true (k + markSize ms k) e y in
           let z : p + markSize ms p ≡ k + markSize ms k = omega (arith, q, s .ends) in
           let g : p < k = before b in
-          same-end q ∙ (rw z at (f .onward p g (omega arith)))
-          ∙ sym (last-skip (markSize ms) (k + markSize ms k) p k (omega arith) (λ j c d. by-test (ltb p j)
-          (λ t. omega (arith, s .closed j (ltb-true p j t) d)) (λ t. let w : j ≡ p = omega (arith, ltb-false p j t) in rw w (omega arith)))))
+          rw (y, f .onward p g (omega (arith, s .inside, s .ends)) (omega arith), z)
+          (sym (last-skip (markSize ms) (k + markSize ms k) p k (omega arith) (λ j c d. by-test (ltb p j)
+          (λ t. omega (arith, s .closed j (ltb-true p j t) d)) (λ t. let w : j ≡ p = omega (arith, ltb-false p j t) in rw w (omega arith))))))
           (λ n. let q = eqb-false (k + markSize ms k) e n in
-          other-end q ∙ sym (last-is (markSize ms) (k + markSize ms k) k p (s .below) (λ j c d. omega (arith, s .closed j c d))
-          (λ _. omega (arith, within-parent, q, s .ends))))
-
-      abbrev next : List ℕ
-      next = set now k o
+          rw n (sym (last-is (markSize ms) (k + markSize ms k) k p (s .below) (λ j c d. omega (arith, s .closed j c d))
+          (λ _. omega (arith, within-parent, q, s .ends)))))
 
       in-now : k < length now
       in-now = omega (arith, f .same, h .few)
 
-      module _ {parent₂ end₂ : ℕ} (b : parent₂ ≤ k) (d : end₂ ≡ parent₂ + markSize ms parent₂) (i : k < end₂)
-          (c : (j : ℕ) → parent₂ < j → j < k + 1 → j + markSize ms j ≤ k + 1) where
-        advanced : Filling next (k + 1) parent₂ end₂
-        advanced = record {
-          same = length-set now k o ∙ f .same;
-          ahead = λ j a. getD-set-other now k j o 0 (λ e. omega arith) ∙ f .ahead j (omega arith);
-          onward = λ j a. by-test (eqb j k)
-              (λ y. let q = eqb-true j k y in rw q (λ r. getD-set-same now k o 0 in-now ∙ goes-on r))
-              (λ n. let q = eqb-false j k n in λ r. getD-set-other now k j o 0 q ∙ f .onward j (omega (arith, q)) r);
-          below = omega arith;
-          ends = d;
-          inside = omega arith;
-          closed = c;
-        }
+      pub filled-list : 1 < markSize ms k → Filling (set now k o) (k + 1) k (k + markSize ms k)
+      filled-list g = record {
+        same = length-set now k o ∙ f .same;
+        ahead = λ j a. getD-set-other now k j o 0 (λ e. omega arith) ∙ f .ahead j (omega arith);
+        onward = λ j a. by-test (eqb j k)
+            (λ y. let q = eqb-true j k y in rw q (λ _ r. getD-set-same now k o 0 in-now ∙ goes-on r))
+            (λ n. let q = eqb-false j k n in λ z r. getD-set-other now k j o 0 q ∙ f .onward j (omega (arith, q)) z r);
+        below = omega arith;
+        ends = refl;
+        inside = omega arith;
+        closed = λ j a c. absurd (omega arith);
+        list = λ _. g;
+      }
 
-      pub filled-list : 1 < markSize ms k → Filling next (k + 1) k (k + markSize ms k)
-      filled-list g = advanced (omega arith) refl (omega arith) (λ j a c. absurd (omega arith))
+      -- a row that holds this one
+      parent-list : markSize ms k ≤ 1 → k + 1 < rows → 1 < markSize ms p
+      parent-list g m = by-test (ltb p k) (λ y. omega (arith, ltb-true p k y, s .inside, s .ends)) (λ n. absurd (
+          let z : k ≡ 0 = omega (arith, s .below, ltb-false p k n) in
+          let w : markSize ms 0 ≤ 1 = rw z at g in
+          omega (arith, w, h .top (omega arith))))
 
-      pub filled-leaf : markSize ms k ≤ 1 → Filling next (k + 1) p e
-      filled-leaf g =
-          advanced (omega (arith, s .below)) (s .ends) (s .inside)
-          (λ j a c. by-test (ltb j k) (λ y. omega (arith, s .closed j a (ltb-true j k y)))
-          (λ n. let q : j ≡ k = omega (arith, ltb-false j k n) in rw q (omega arith)))
+      pub filled-leaf : markSize ms k ≤ 1 → k + 1 < rows → Filling now (k + 1) p e
+      filled-leaf g m = record {
+        same = f .same;
+        ahead = λ j a. f .ahead j (omega arith);
+        onward = λ j a. by-test (eqb j k) (λ y. let q = eqb-true j k y in rw q (λ z. absurd (omega arith)))
+            (λ n. f .onward j (omega (arith, eqb-false j k n)));
+        below = omega (arith, s .below);
+        ends = s .ends;
+        inside = omega (arith, s .inside);
+        closed = λ j a c. by-test (ltb j k) (λ y. omega (arith, s .closed j a (ltb-true j k y)))
+            (λ n. let q : j ≡ k = omega (arith, ltb-false j k n) in rw q (omega arith));
+        list = λ _. parent-list g m;
+      }

@@ -10,8 +10,8 @@ use lib.Seq.{sets, length-sets}
 use borrow.Author.Needs.{needs}
 use Rattle.syntax.specs.Holding.{word}
 use Rattle.marks.specs.Marks.{markEntry}
-use Rattle.marks.specs.Filling.{lastOpen, markSize}
-use Rattle.marks.proofs.filling.Laws.{Stored, Filling, Standing, words-none, row-stored, stands-here, stands-up, up-below, stored-size, standing-is, filling-begins, filled-list, filled-leaf, rows-stored}
+use Rattle.marks.specs.Filling.{markSize, onward}
+use Rattle.marks.proofs.filling.Laws.{Stored, Filling, Standing, words-none, row-stored, stands-here, stands-up, up-below, stored-size, standing-is, filling-same, filling-begins, filled-list, filled-leaf, rows-stored}
 use Rattle.marks.proofs.filling.fill.Statement.{statement}
 use Rattle.marks.proofs.filling.fill.Tie as tie
 
@@ -80,39 +80,37 @@ module _ (c : tie.After-put-mark Inv μ) where
       row-stored marks (given inside .args .table .now) row (omega (arith, given inside .pre .0 .few)) (at inside .loop .inv .1)
       (rw (← own-mark, ← standing-is marks (given inside .args .rows) (standing stood)) (c .put-mark .ensures .1))
 
--- where to go on behind it
-module _ (c : tie.Joined2 Inv μ) where
-  abbrev put : tie.After-put-mark Inv μ
-  put = c .before .before .before
+abbrev put : tie.Joined2 Inv μ → tie.After-put-mark Inv μ
+put c = c .before .before .before
 
-  same-end : row put + markSize (marks put) (row put) ≡ stood put .if1 .end → c .if2 .onward ≡ getD (at (inside put) .loop .marks) (stood put .if1 .parent) 0
-  same-end e =
-      ⊎-elim {C = c .if2 .onward ≡ getD (at (inside put) .loop .marks) (stood put .if1 .parent) 0} (λ w. w .3)
-      (λ w. absurd (w .0 .left (omega (arith, sized put, e)))) (c .if2 .came)
+ends-small : (p : tie.After-put-mark Inv μ) → row p + p .put-mark .result ≤ 65536
+ends-small p = let h = given (inside p) .pre .0 in omega (arith, sized p, h .within (row p) (omega arith), h .small)
 
-  other-end : (row put + markSize (marks put) (row put) ≡ stood put .if1 .end → ⊥) → c .if2 .onward ≡ stood put .if1 .parent
-  other-end n =
-      ⊎-elim {C = c .if2 .onward ≡ stood put .if1 .parent} (λ w. absurd (n (omega (arith, sized put, w .0 .taken)))) (λ w. w .1) (c .if2 .came)
+-- the marks are as many
+same : (c : tie.Joined2 Inv μ) → length (c .if2 .marks) ≡ length (at (inside (put c)) .loop .marks)
+same c =
+    ⊎-elim {C = length (c .if2 .marks) ≡ length (at (inside (put c)) .loop .marks)}
+    (λ w. ap length (w .5 ∙ w .2 .ensures) ∙ simp length-set) (λ w. ap length (w .1)) (c .if2 .came)
 
--- the marks behind it
-filled : (c : tie.Joined3 Inv μ) → let p = put (c .before) in
-    Filling (marks p) (given (inside p) .args .rows) (set (at (inside p) .loop .marks) (row p) (c .before .if2 .onward)) (row p + 1) (c .if3 .parent) (c .if3 .end)
-filled c =
-    let j = c .before in
-    let p = put j in
+-- the marks behind it, as long as there is more
+filled : (c : tie.Joined2 Inv μ) → let p = put c in row p + 1 < given (inside p) .args .rows →
+    Filling (marks p) (given (inside p) .args .rows) (c .if2 .marks) (row p + 1) (c .if2 .parent) (c .if2 .end)
+filled c l =
+    let p = put c in
     let i = inside p in
     let n = given i .args .rows in
     let m = marks p in
-    let now = set (at i .loop .marks) (row p) (j .if2 .onward) in
     let h = given i .pre .0 in
     let f = filling i in
     let t = i .loop-test .taken in
     let s = standing (stood p) in
-    ⊎-elim {C = Filling m n now (row p + 1) (c .if3 .parent) (c .if3 .end)}
-    (λ w. let e = w .2 ∙ ap (λ (k : ℕ). row p + k) (sized p) in
-    rw (w .1, e) (filled-list m n h f t s (same-end j) (other-end j) (omega (arith, w .0 .taken, sized p))))
-    (λ w. rw (w .1, w .2) (filled-leaf m n h f t s (same-end j) (other-end j) (omega (arith, w .0 .left, sized p))))
-    (c .if3 .came)
+    ⊎-elim {C = Filling m n (c .if2 .marks) (row p + 1) (c .if2 .parent) (c .if2 .end)}
+    (λ w. let now = at i .loop .marks in
+    let q = w .5 ∙ w .2 .ensures ∙ ap (λ (k : ℕ). set now (row p) (onward now (row p + k) (stood p .if1 .parent) (stood p .if1 .end))) (sized p) in
+    let e = w .7 ∙ ap (λ (k : ℕ). row p + k) (sized p) in
+    filling-same m n q (w .6) e (filled-list m n h f t s (omega (arith, w .0 .taken, sized p))))
+    (λ w. filling-same m n (w .1) (w .2) (w .3) (filled-leaf m n h f t s (omega (arith, w .0 .left, sized p)) l))
+    (c .if2 .came)
 
 -- the row above lies before this one
 above : (c : tie.Then1 Inv μ) → let i = c .before in getD (at i .loop .marks) (at i .loop .parent) 0 < at i .loop .row
@@ -141,14 +139,13 @@ fill-spec = tie.close (tie.spec Inv μ
     (λ c. let i = c .before .before in omega (arith, given i .pre .0 .small))  -- mul-put-mark
     (λ c. let i = c .before .before .before in omega (arith, filling i .same, given i .pre .0 .few))  -- slice-read-put-mark
     (λ c κs. let j = c .before .before in let i = j .before in (omega (arith, whole i, given i .pre .1), omega (arith, marked j .1)))  -- put-mark-requires
-    (λ c. let p = c .before .before in let h = given (inside p) .pre .0 in omega (arith, sized p, h .within (row p) (omega arith), h .small))  -- add-last
-    (λ c. omega (arith, marked (stood (c .before .before .before .before)) .1))  -- mul-onward
-    (λ c. marked (stood (c .before .before .before .before .before)) .0)  -- slice-read-onward
-    (λ c. let i = inside (put c) in omega (arith, given i .pre .0 .small))  -- mul-marks
-    (λ c. let i = inside (put c) in omega (arith, filling i .same, given i .pre .0 .few))  -- slice-write-marks
-    (λ c. let i = inside (put (c .before)) in omega (arith, given i .pre .0 .small))  -- add-row
+    (λ c. omega (arith, ends-small (c .before .before .before .before)))  -- add-turn
+    (λ c κs. let p = c .before .before .before .before in let i = inside p in
+    (omega (arith, filling i .same, given i .pre .0 .few), marked (stood p) .0))  -- turn-requires
+    (λ c. omega (arith, ends-small (c .before .before .before .before .before .before .before)))  -- add-end-2
+    (λ c. let i = inside (put c) in omega (arith, given i .pre .0 .small))  -- add-row
     (λ c. omega arith)  -- loop-less
-    (λ c. let p = put (c .before) in (omega arith, stored p, simp length-set (at (inside p) .loop .inv .2), λ _. filled c))  -- loop-again
+    (λ c. let p = put c in (omega arith, stored p, same c ∙ at (inside p) .loop .inv .2, filled c))  -- loop-again
     (λ c. c .before .loop .inv .2)  -- same-length
     (λ c. ap length (c .before .loop .inv .1) ∙ simp length-sets)  -- same-length-2
     (λ c. let i = c .before .loop .inv in rows-stored _ _ (i .1) (i .0) (c .loop-test .left)))  -- returns
