@@ -14,6 +14,7 @@ use Rattle.tokens.specs.Parse.{Parse, refused, parsed}
 use Rattle.syntax.specs.Tree.{Node, scalar, array, object, Nodes, none as no-node, more, Members, no-member, member, placeOf}
 use Rattle.syntax.specs.Rows.{size}
 use Rattle.syntax.specs.Grammar.{nameOf}
+use Rattle.syntax.specs.Holding.{Holds, Nested}
 use Rattle.syntax.specs.Answer.{answer, rowsIn, tableOf}
 use Rattle.syntax.specs.declared.answers.Answer.{Answer}
 use Rattle.syntax.proofs.Facts.{read-shallow}
@@ -164,18 +165,18 @@ module _ {w₁ w₂ : ℕ} {s₁ s₂ : List ℕ} (h : HasMismatch w₁ w₂ s�
   abbrev place : ℕ
   place = checkAnswer w₁ w₂ s₁ s₂ .place
 
-  found : NoPath place (paths [] 0 (h .tree)) → ⊥
-  found e =
+  pub mismatch-found : pathTo place (paths [] 0 (h .tree)) ≡ [] → ⊥
+  mismatch-found e =
       let n = h .tree in
       let q = h .reads in
       let r = mismatch-real s₁ (h .definition) n (read-placed _ _ s₁ n (h .end) q) (read-json _ _ s₁ n (h .end) q) (h .fails) in
       let p : place ≡ placeOf (r .judged-value) = h .place ∙ r .place in
       reached (r .judges) [] 0 (rw p at e)
 
-  few : length (pathTo place (paths [] 0 (h .tree))) ≤ pathWords
-  few =
+  pub mismatch-few : length (pathTo place (paths [] 0 (h .tree))) ≤ pathWords
+  mismatch-few =
       let s = all-short pathWords 32 [] 0 (h .tree) (read-shallow s₁ _ _ (h .tree) (h .end) (h .reads)) (omega arith) in
-      let p = picked (Short pathWords) place (paths [] 0 (h .tree)) s found in
+      let p = picked (Short pathWords) place (paths [] 0 (h .tree)) s mismatch-found in
       omega (arith, ap length (p .3), p .1)
 
   -- Check's path is that to it
@@ -185,23 +186,29 @@ module _ {w₁ w₂ : ℕ} {s₁ s₂ : List ℕ} (h : HasMismatch w₁ w₂ s�
 
   -- the table that Check leaves, and the list that is lent
   module _ (t₁ : List ℕ) (z : length t₁ ≡ w₁) where
-    left : checkTable t₁ w₂ s₁ s₂ ≡ tableOf t₁ (readDocument s₁)
+    pub mismatch-table : checkTable t₁ w₂ s₁ s₂ ≡ tableOf t₁ (readDocument s₁)
     unfolding checkTable
-    left = rw (h .accepts)
+    mismatch-table = rw (h .accepts)
+
+    -- it holds the document's rows
+    pub mismatch-holds : Holds (checkTable t₁ w₂ s₁ s₂) 0 (h .tree) × Nested (checkTable t₁ w₂ s₁ s₂) 0 0 (h .tree)
+    mismatch-holds =
+        let n = h .tree in
+        let g : size n ≤ rowsIn (length t₁) = rw z (h .room) in
+        rw mismatch-table (read-table _ _ s₁ t₁ n (h .end) (h .reads) g, read-nested _ _ s₁ t₁ n (h .end) (h .reads) g)
 
     module _ {u₁ : List ℕ} (e : u₁ ≡ checkTable t₁ w₂ s₁ s₂) (list : List ℕ) where
       pub path-ready : pathWords ≤ length list → PathReady u₁ place list
       path-ready l =
           let n = h .tree in
           let q = h .reads in
-          let g : size n ≤ rowsIn (length t₁) = rw z (h .room) in
           record {
             tree = n;
-            holds = rw (e, left) (read-table _ _ s₁ t₁ n (h .end) q g);
-            nested = rw (e, left) (read-nested _ _ s₁ t₁ n (h .end) q g);
+            holds = rw e (mismatch-holds .0);
+            nested = rw e (mismatch-holds .1);
             small = omega (arith, read-rows _ _ s₁ n (h .end) q, read-short _ _ s₁ n (h .end) q);
-            found = found;
-            few = omega (arith, few);
+            found = mismatch-found;
+            few = omega (arith, mismatch-few);
           }
 
       pub path-done : pathWords ≤ length list → {k : ℕ} {list₂ : List ℕ} → PathWritten u₁ place k list list₂
@@ -209,7 +216,7 @@ module _ {w₁ w₂ : ℕ} {s₁ s₂ : List ℕ} (h : HasMismatch w₁ w₂ s�
       unfolding path-ready
       path-done l w =
           let x = w .tells (h .tree) (path-ready l .holds) in
-          (x .0 ∙ ap length (sym path-is), x .1 ∙ ap (λ (rs : List ℕ). listAfter rs list) (sym path-is), omega (arith, few, x .0))
+          (x .0 ∙ ap length (sym path-is), x .1 ∙ ap (λ (rs : List ℕ). listAfter rs list) (sym path-is), omega (arith, mismatch-few, x .0))
 
 -- there is no path where there is no mismatch
 pub no-path : (w₁ w₂ : ℕ) (s₁ s₂ : List ℕ) → checkAnswer w₁ w₂ s₁ s₂ .code < 20 → checkPath w₁ w₂ s₁ s₂ ≡ []

@@ -1,0 +1,81 @@
+-- The path on Check's terms (02, L11): it begins with the row of the value at the place, the sixth words lead from each row to the next, up to 0, and
+-- it has at most 33 rows.
+use Prim.Native.Nat.{ℕ, _+_, _≤_}
+use mathlib.Core.Path.{_≡_, refl, sym, ap, _∙_}
+use mathlib.Core.List.{List, [], _∷_}
+use native.Mathlib.Omega.{arith}
+use lib.ListN.{length}
+use lib.Dec.{ltb}
+use borrow.Author.Tests.{ltb-true, ltb-false}
+use Rattle.model.proofs.Basics.{by-test}
+use Rattle.tokens.specs.Tokens.{kindNumber}
+use Rattle.syntax.specs.Tree.{Node, scalar, array, object, Nodes, none as no-node, more, Members, no-member, member}
+use Rattle.syntax.specs.Rows.{size}
+use Rattle.syntax.specs.Holding.{word, Holds, HoldsAll, HoldsMembers}
+use Rattle.syntax.proofs.Facts.{kind-small}
+use Rattle.schema.specs.Checking.{checkAnswer, checkTable}
+use Rattle.schema.specs.Paths.{Path, paths, pathsAll, pathsMembers, pathTo, checkPath, pathWords, Leads, top}
+use Rattle.schema.specs.Climbing.{PathReady}
+use Rattle.schema.proofs.paths.Laws.{AllPaths, all-append, picked, LeadsUp, all-lead}
+use Rattle.schema.proofs.paths.Reached.{HasMismatch, has-mismatch, path-is, mismatch-few, mismatch-found, mismatch-holds, no-path}
+
+-- ---- a path begins with its value's row
+
+-- the row is that of a value, no name's, which begins at the path's place
+abbrev Begins : List ℕ → Path → Type 0
+Begins t p = (word t (p .row) 1 ≡ p .place) × (word t (p .row) 0 ≡ 9 → ⊥)
+
+module _ (t : List ℕ) where
+  mutual
+    all-begin : (around : List ℕ) (r : ℕ) (n : Node) → Holds t r n → AllPaths (Begins t) (paths around r n)
+    all-begin around r (scalar k f e) h = ((h .first, λ q. omega (arith, kind-small k, h .kind)), tt)
+    all-begin around r (array f e ns) h = ((h .0 .first, λ q. omega (arith, h .0 .kind)), begin-all (r ∷ around) (r + 1) ns (h .1))
+    all-begin around r (object f e ms) h = ((h .0 .first, λ q. omega (arith, h .0 .kind)), begin-members (r ∷ around) (r + 1) ms (h .1))
+
+    begin-all : (around : List ℕ) (r : ℕ) (ns : Nodes) → HoldsAll t r ns → AllPaths (Begins t) (pathsAll around r ns)
+    begin-all around r no-node h = tt
+    begin-all around r (more n ns) h =
+        all-append (Begins t) (paths around r n) (pathsAll around (r + size n) ns) (all-begin around r n (h .0)) (begin-all around (r + size n) ns (h .1))
+
+    begin-members : (around : List ℕ) (r : ℕ) (ms : Members) → HoldsMembers t r ms → AllPaths (Begins t) (pathsMembers around r ms)
+    begin-members around r no-member h = tt
+    begin-members around r (member f e n ms) h =
+        all-append (Begins t) (paths around (r + 1) n) (pathsMembers around (r + 1 + size n) ms) (all-begin around (r + 1) n (h .1))
+        (begin-members around (r + 1 + size n) ms (h .2))
+
+-- ---- of Check's answer and table
+
+module _ (t₁ : List ℕ) (w₂ : ℕ) (s₁ s₂ : List ℕ) where
+  abbrev after : List ℕ
+  after = checkTable t₁ w₂ s₁ s₂
+
+  abbrev place : ℕ
+  place = checkAnswer (length t₁) w₂ s₁ s₂ .place
+
+  abbrev rows : List ℕ
+  rows = checkPath (length t₁) w₂ s₁ s₂
+
+  module _ (c : 20 ≤ checkAnswer (length t₁) w₂ s₁ s₂ .code) where
+    known : HasMismatch (length t₁) w₂ s₁ s₂
+    known = has-mismatch (length t₁) w₂ s₁ s₂ c
+
+    -- the sixth words of the table lead along the path
+    pub path-leads : (row : ℕ) × (around : List ℕ) × (rows ≡ row ∷ around) × Leads after row (row ∷ around)
+    path-leads =
+        let h = mismatch-holds known t₁ refl in
+        let p = picked (LeadsUp after) place (paths [] 0 (known .tree)) (all-lead after [] 0 0 (known .tree) (h .1) top) (mismatch-found known) in
+        (p .0 .row, p .0 .around, path-is known ∙ p .3, p .1)
+
+    -- its first row is that of a value which begins at the place
+    pub path-first : (row : ℕ) × (around : List ℕ) × (rows ≡ row ∷ around) × (word after row 1 ≡ place) × (word after row 0 ≡ 9 → ⊥)
+    path-first =
+        let h = mismatch-holds known t₁ refl in
+        let p = picked (Begins after) place (paths [] 0 (known .tree)) (all-begin after [] 0 (known .tree) (h .0)) (mismatch-found known) in
+        (p .0 .row, p .0 .around, path-is known ∙ p .3, p .1 .0 ∙ p .2, p .1 .1)
+
+  -- with every code
+  pub path-few : length rows ≤ pathWords
+  path-few =
+      by-test (ltb (checkAnswer (length t₁) w₂ s₁ s₂ .code) 20)
+      (λ y. omega (arith, ap length (no-path (length t₁) w₂ s₁ s₂ (ltb-true _ _ y))))
+      (λ n. let k = has-mismatch (length t₁) w₂ s₁ s₂ (ltb-false _ _ n) in omega (arith, ap length (path-is k), mismatch-few k))
