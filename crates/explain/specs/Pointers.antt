@@ -7,11 +7,13 @@ use mathlib.Core.List.{List, [], _∷_, _++_}
 use lib.ListN.{length}
 use lib.Dec.{ltb, eqb}
 use Rattle.grammar.specs.Utf8.{utf8}
+use Rattle.tokens.specs.Parse.{Parse, refused, parsed}
 use Rattle.syntax.specs.Tree.{Node, scalar, array, object, Nodes, none, more, Members, no-member, member}
 use Rattle.syntax.specs.Rows.{size}
 use Rattle.syntax.specs.Grammar.{nameOf}
 use Rattle.syntax.specs.Holding.{Holds, Placed}
-use Rattle.schema.specs.Paths.{Path, paths}
+use Rattle.schema.specs.Checking.{readDocument}
+use Rattle.schema.specs.Paths.{Path, paths, checkPath}
 
 -- ---- reference tokens
 
@@ -80,7 +82,24 @@ fitted [] out = out
 fitted (b ∷ bs) [] = []
 fitted (b ∷ bs) (o ∷ os) = b ∷ fitted bs os
 
--- ---- the contract of `write_pointer`
+-- ---- the pointer to Check's mismatch
+
+-- of the value at row r
+abbrev pub pointerAt : ℕ → List Pointer → List ℕ
+pointerAt r [] = []
+pointerAt r (p ∷ ps) = cond (eqb (p .row) r) (p .bytes) (pointerAt r ps)
+
+-- of the value to which a path leads: its first row
+abbrev pub pointerTo : List ℕ → List ℕ → Parse Node → List ℕ
+pointerTo s [] o = []
+pointerTo s (row ∷ around) (refused c p) = []
+pointerTo s (row ∷ around) (parsed n e) = pointerAt row (pointers s [] 0 n)
+
+-- 02, L11: "To print the path to a misfit"
+unfoldable pub checkPointer : ℕ → ℕ → List ℕ → List ℕ → List ℕ
+checkPointer w₁ w₂ document schema = pointerTo document (checkPath w₁ w₂ document schema) (readDocument document)
+
+-- ---- for the private contract of `write_pointer`
 
 -- one of these values has the rows `rows`: its own, and then those around it
 abbrev pub HasRows : List ℕ → List Path → Type 0

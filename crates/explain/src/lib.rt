@@ -1,5 +1,7 @@
-// The pointer of a value of a document (RFC 6901), by the document's rows.
+// Check, and the pointer of the value at its mismatch (RFC 6901), by the document's rows.
+mod explaining;
 mod pieces;
 mod pointers;
 
-pub use pointers::write_pointer;
+pub use explaining::Explained;
+pub use explaining::explain;
