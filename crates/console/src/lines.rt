@@ -17,6 +17,12 @@ pub fn answer(a: Answer) {
     number(a.other, b"\n");
 }
 
+// Bytes, and the end of the line.
+pub fn line(bytes: &[u8]) {
+    io::write_all(STDOUT_FILENO, bytes);
+    io::write_all(STDOUT_FILENO, b"\n");
+}
+
 fn number(n: u32, behind: &[u8]) {
     io::print_decimal(STDOUT_FILENO, n as u64);
     io::write_all(STDOUT_FILENO, behind);
