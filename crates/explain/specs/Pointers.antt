@@ -1,19 +1,15 @@
 -- The JSON Pointer of each value of a text (RFC 6901), and what a lent buffer gets of one.
-use Prim.Native.Nat.{ℕ, zero, suc, _+_, _/_, _%_, _≤_}
-use mathlib.Core.Path.{_≡_}
-use mathlib.Core.Logic.{_⊎_}
+use Prim.Native.Nat.{ℕ, zero, suc, _+_, _/_, _%_}
 use mathlib.Core.Bool.{cond}
 use mathlib.Core.List.{List, [], _∷_, _++_}
-use lib.ListN.{length}
 use lib.Dec.{ltb, eqb}
 use Rattle.grammar.specs.Utf8.{utf8}
 use Rattle.tokens.specs.Parse.{Parse, refused, parsed}
 use Rattle.syntax.specs.Tree.{Node, scalar, array, object, Nodes, none, more, Members, no-member, member}
 use Rattle.syntax.specs.Rows.{size}
 use Rattle.syntax.specs.Grammar.{nameOf}
-use Rattle.syntax.specs.Holding.{Holds, Placed}
 use Rattle.schema.specs.Checking.{readDocument}
-use Rattle.schema.specs.Paths.{Path, paths, checkPath}
+use Rattle.schema.specs.Paths.{checkPath}
 
 -- ---- reference tokens
 
@@ -69,11 +65,6 @@ abbrev mutual
   pointersMembers s before r no-member = []
   pointersMembers s before r (member f e n ms) = pointers s (before ++ nameToken (nameOf s f e)) (r + 1) n ++ pointersMembers s before (r + 1 + size n) ms
 
--- among these, the value at row r has the pointer w
-abbrev pub Points : ℕ → List ℕ → List Pointer → Type 0
-Points r w [] = ⊥
-Points r w (p ∷ ps) = ((r ≡ p .row) × (w ≡ p .bytes)) ⊎ Points r w ps
-
 -- ---- a lent buffer
 
 -- what fits of the bytes, from byte 0 on, and the rest of the buffer as found
@@ -98,23 +89,3 @@ pointerTo s (row ∷ around) (parsed n e) = pointerAt row (pointers s [] 0 n)
 -- 02, L11: "To print the path to a misfit"
 unfoldable pub checkPointer : ℕ → ℕ → List ℕ → List ℕ → List ℕ
 checkPointer w₁ w₂ document schema = pointerTo document (checkPath w₁ w₂ document schema) (readDocument document)
-
--- ---- for the private contract of `write_pointer`
-
--- one of these values has the rows `rows`: its own, and then those around it
-abbrev pub HasRows : List ℕ → List Path → Type 0
-HasRows rows [] = ⊥
-HasRows rows (p ∷ ps) = (rows ≡ p .row ∷ p .around) ⊎ HasRows rows ps
-
--- the table has the rows of a value of the text, and `path` those of one that stands in it
-pub record PointerReady (s t path : List ℕ) : Type 0 where
-  pub tree : Node
-  pub holds : Holds t 0 tree
-  pub placed : Placed s tree
-  pub short : length s ≤ 65536
-  pub has : HasRows path (paths [] 0 tree)
-
--- what fits of the pointer of that value is written, and k is its length, whether or not it fits
-pub record PointerWritten (s t path : List ℕ) (k : ℕ) (out out₂ : List ℕ) : Type 0 where
-  pub tells : (n : Node) → Holds t 0 n → (row : ℕ) (around : List ℕ) → path ≡ row ∷ around → (w : List ℕ) → Points row w (pointers s [] 0 n)
-      → (k ≡ length w) × (out₂ ≡ fitted w out)

@@ -1,15 +1,17 @@
 -- For private contracts: bytes that are put into a buffer from a place on, and a step from a value of a text to one inside it, by rows.
 use Prim.Native.Nat.{ℕ, _+_, _≤_}
 use mathlib.Core.Path.{_≡_}
-use mathlib.Core.List.{List}
+use mathlib.Core.Logic.{_⊎_}
+use mathlib.Core.List.{List, [], _∷_}
 use lib.ListN.{length}
 use lib.Seq.{sets}
 use Rattle.syntax.specs.Tree.{Node, array, object, Nodes, more, Members, member}
 use Rattle.syntax.specs.Rows.{size}
 use Rattle.syntax.specs.Grammar.{nameOf}
-use Rattle.syntax.specs.Holding.{HoldsAll}
+use Rattle.syntax.specs.Holding.{Holds, HoldsAll, Placed}
+use Rattle.schema.specs.Paths.{Path, paths}
 use Rattle.rows.specs.Records.{Rowed}
-use Rattle.explain.specs.Pointers.{nameToken, indexToken}
+use Rattle.explain.specs.Pointers.{nameToken, indexToken, Pointer, pointers, fitted}
 
 -- ---- bytes in a buffer
 
@@ -70,3 +72,26 @@ pub record TokenReady (s t : List ℕ) (r c i : ℕ) : Type 0 where
 
 pub record TokenPut (s t : List ℕ) (r c i k : ℕ) (out out₂ : List ℕ) : Type 0 where
   pub tells : (d : StepRow s t r c) → Puts (d .token) i k out out₂
+
+-- among these, the value at row r has the pointer w
+abbrev pub Points : ℕ → List ℕ → List Pointer → Type 0
+Points r w [] = ⊥
+Points r w (p ∷ ps) = ((r ≡ p .row) × (w ≡ p .bytes)) ⊎ Points r w ps
+
+-- one of these values has the rows `rows`: its own, and then those around it
+abbrev pub HasRows : List ℕ → List Path → Type 0
+HasRows rows [] = ⊥
+HasRows rows (p ∷ ps) = (rows ≡ p .row ∷ p .around) ⊎ HasRows rows ps
+
+-- the table has the rows of a value of the text, and `path` those of one that stands in it
+pub record PointerReady (s t path : List ℕ) : Type 0 where
+  pub tree : Node
+  pub holds : Holds t 0 tree
+  pub placed : Placed s tree
+  pub short : length s ≤ 65536
+  pub has : HasRows path (paths [] 0 tree)
+
+-- what fits of the pointer of that value is written, and k is its length, whether or not it fits
+pub record PointerWritten (s t path : List ℕ) (k : ℕ) (out out₂ : List ℕ) : Type 0 where
+  pub tells : (n : Node) → Holds t 0 n → (row : ℕ) (around : List ℕ) → path ≡ row ∷ around → (w : List ℕ) → Points row w (pointers s [] 0 n)
+      → (k ≡ length w) × (out₂ ≡ fitted w out)

@@ -4,8 +4,7 @@ use crate::pieces::put_index;
 use crate::pieces::put_name;
 use rows::between;
 use rows::row_at;
-ghost use Rattle.explain.specs.Pointers.{PointerReady, PointerWritten};
-ghost use Rattle.explain.specs.Writing.{ElementRow, Counts, TokenReady, TokenPut};
+ghost use Rattle.explain.specs.Writing.{ElementRow, Counts, TokenReady, TokenPut, PointerReady, PointerWritten};
 
 // The index of the element at row `child` in the array at row `parent`.
 fn index_of(table: &[u32], parent: usize, child: usize) -> usize

@@ -19,7 +19,8 @@ use Rattle.definitions.specs.Accepting.{readSchema}
 use Rattle.schema.specs.Checking.{readDocument, checkAnswer, checkTable}
 use Rattle.schema.specs.Paths.{paths, pathTo, checkPath, listAfter}
 use Rattle.schema.proofs.Facts.{HasMismatch, has-mismatch, mismatch-found, mismatch-table, path-is, no-path}
-use Rattle.explain.specs.Pointers.{Pointer, pointers, Points, fitted, pointerAt, pointerTo, checkPointer, HasRows, PointerReady, PointerWritten}
+use Rattle.explain.specs.Pointers.{Pointer, pointers, fitted, pointerAt, pointerTo, checkPointer}
+use Rattle.explain.specs.Writing.{Points, HasRows, PointerReady, PointerWritten}
 use Rattle.explain.specs.declared.explaining.Explained.{Explained}
 use Rattle.explain.proofs.pointers.Paths.{picked-rows}
 use Rattle.explain.proofs.pointers.Documents.{place-ready, PointerOf, pointer-of}

@@ -10,7 +10,8 @@ use Rattle.syntax.specs.Answer.{rowsIn, tableOf}
 use Rattle.syntax.proofs.Theorems.{read-placed, read-short, read-table}
 use Rattle.schema.specs.Checking.{readDocument}
 use Rattle.schema.specs.Paths.{paths, pathTo}
-use Rattle.explain.specs.Pointers.{pointers, Points, HasRows, PointerReady}
+use Rattle.explain.specs.Pointers.{pointers}
+use Rattle.explain.specs.Writing.{Points, HasRows, PointerReady}
 use Rattle.explain.proofs.pointers.Values.{chain-points}
 use Rattle.explain.proofs.pointers.Paths.{picked-rows, rows-first, from}
 

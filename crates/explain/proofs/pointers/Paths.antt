@@ -9,8 +9,8 @@ use Rattle.syntax.specs.Tree.{Node, scalar, array, object, Nodes, none, more, M
 use Rattle.syntax.specs.Rows.{size}
 use Rattle.syntax.specs.Grammar.{nameOf}
 use Rattle.schema.specs.Paths.{Path, paths, pathsAll, pathsMembers, pathTo}
-use Rattle.explain.specs.Pointers.{nameToken, indexToken, HasRows, PointerReady}
-use Rattle.explain.specs.Writing.{ElementAt, element-first, element-later, MemberAt, member-first, member-later, to-element, to-member}
+use Rattle.explain.specs.Pointers.{nameToken, indexToken}
+use Rattle.explain.specs.Writing.{ElementAt, element-first, element-later, MemberAt, member-first, member-later, to-element, to-member, HasRows, PointerReady}
 use Rattle.explain.proofs.pointers.Chains.{Chain, here, inside, Chained}
 
 -- the path that is picked by its place

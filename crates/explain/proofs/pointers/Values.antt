@@ -8,8 +8,8 @@ use Rattle.syntax.specs.Tree.{Node, scalar, array, object, Nodes, none, more, M
 use Rattle.syntax.specs.Rows.{size, sizes, sizesMembers}
 use Rattle.syntax.specs.Grammar.{nameOf}
 use Rattle.syntax.proofs.Facts.{holds-same}
-use Rattle.explain.specs.Pointers.{nameToken, indexToken, Pointer, pointers, pointersAll, pointersMembers, Points, PointerWritten}
-use Rattle.explain.specs.Writing.{Puts, ElementAt, element-first, element-later, MemberAt, member-first, member-later, StepTo, to-element, to-member}
+use Rattle.explain.specs.Pointers.{nameToken, indexToken, Pointer, pointers, pointersAll, pointersMembers}
+use Rattle.explain.specs.Writing.{Puts, ElementAt, element-first, element-later, MemberAt, member-first, member-later, StepTo, to-element, to-member, Points, PointerWritten}
 use Rattle.explain.proofs.pieces.Buffers.{puts-fitted, puts-as}
 use Rattle.explain.proofs.pointers.Chains.{Chain, here, inside, Chained}
 
