@@ -1,6 +1,7 @@
 // The pieces of a pointer: each is put into the buffer from a place on, as far as it lies there, and the place behind it is told.
 use chars::Step;
 use chars::char_at;
+use writer::write_utf8;
 ghost use Prim.Native.Nat.{_+_, _≤_, _<_};
 ghost use lib.ListN.{length};
 ghost use mathlib.Core.List.{[], _∷_};
@@ -20,13 +21,17 @@ pub fn put(out: &mut [u8], at: usize, byte: u8) -> usize
     at + 1
 }
 
-// Two bytes.
-fn put_two(out: &mut [u8], at: usize, first: u8, second: u8) -> usize
-    requires { ⌜ at + 2 ≤ far ⌝ }
-    ensures { λ r. ⌜ Puts (first ∷ second ∷ []) at r (now (out .entry)) (now (out .exit)) ⌝ }
+// Bytes, one behind the other.
+fn put_all(out: &mut [u8], at: usize, bytes: &[u8]) -> usize
+    requires { ⌜ at + length (now bytes) ≤ far ⌝ }
+    ensures { λ r. ⌜ Puts (now (bytes .entry)) at r (now (out .entry)) (now (out .exit)) ⌝ }
 {
-    let behind = put(out, at, first);
-    put(out, behind, second)
+    let mut i = 0;
+    while i < bytes.len() {
+        put(out, at + i, bytes[i]);
+        i += 1;
+    }
+    at + i
 }
 
 // The bytes of UTF-8.
@@ -34,21 +39,9 @@ fn put_utf8(out: &mut [u8], at: usize, c: u32) -> usize
     requires { ⌜ (c ≤ 0x10FFFF) × (at + 4 ≤ far) ⌝ }
     ensures { λ r. ⌜ Puts (utf8 c) at r (now (out .entry)) (now (out .exit)) ⌝ }
 {
-    if c < 0x80 {
-        return put(out, at, c as u8);
-    }
-    let last = 0x80 + (c % 64) as u8;
-    if c < 0x800 {
-        return put_two(out, at, 0xc0 + (c / 64) as u8, last);
-    }
-    let third = 0x80 + (c / 64 % 64) as u8;
-    if c < 0x10000 {
-        let behind = put_two(out, at, 0xe0 + (c / 4096) as u8, third);
-        return put(out, behind, last);
-    }
-    let first = 0xf0 + (c / 262144) as u8;
-    let behind = put_two(out, at, first, 0x80 + (c / 4096 % 64) as u8);
-    put_two(out, behind, third, last)
+    let mut bytes = [0u8; 4];
+    let n = write_utf8(c, &mut bytes);
+    put_all(out, at, &bytes[..n])
 }
 
 // A character of a reference token.
@@ -57,10 +50,10 @@ fn put_char(out: &mut [u8], at: usize, c: u32) -> usize
     ensures { λ r. ⌜ Puts (tokenChar c) at r (now (out .entry)) (now (out .exit)) ⌝ }
 {
     if c == 0x7e {
-        return put_two(out, at, b'~', b'0');
+        return put_all(out, at, b"~0");
     }
     if c == 0x2f {
-        return put_two(out, at, b'~', b'1');
+        return put_all(out, at, b"~1");
     }
     put_utf8(out, at, c)
 }

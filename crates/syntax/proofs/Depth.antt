@@ -5,10 +5,9 @@ use Prim.Native.Nat.{ℕ, zero, suc}
 use Rattle.chars.specs.Bytes.{byteAt}
 use Rattle.tokens.specs.Parse.{Parse, refused, parsed}
 use Rattle.tokens.specs.Scalars.{firstOf}
-use Rattle.tokens.specs.declared.scalars.First.{First}
 use Rattle.model.proofs.Basics.{never}
 use Rattle.syntax.specs.Tree.{Node, scalar, array, object, Nodes, none, more, addNode, Members, no-member, member, addMember}
-use Rattle.syntax.specs.Grammar.{elementAt, arrayAt, memberAt, objectAt, leafAt, valueBy, valueAt, readText}
+use Rattle.syntax.specs.Grammar.{elementAt, arrayAt, memberAt, objectAt, leafAt, valueAt, readText}
 use Rattle.syntax.proofs.Items.{list-keep}
 use Rattle.syntax.proofs.Values.{by-ways, leaf-parsed, element-parsed, array-parsed, member-parsed, object-parsed}
 use Rattle.syntax.proofs.Induction.{read-begins}

@@ -1,6 +1,6 @@
 -- Rows: how many one element or member more adds, and which entries.
 use mathlib.Core.Path.{_≡_, refl}
-use mathlib.Core.List.{[], _∷_, _++_, append-assoc, append-nil}
+use mathlib.Core.List.{_∷_, _++_, append-assoc, append-nil}
 use Prim.Native.Nat.{ℕ, _+_, _≤_, _<_}
 use native.Mathlib.Omega.{arith}
 use Rattle.syntax.specs.Tree.{Node, scalar, array, object, Nodes, none, more, addNode, Members, no-member, member, addMember}

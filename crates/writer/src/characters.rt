@@ -66,7 +66,7 @@ fn write_long(c: u32, out: &mut [u8])
 }
 
 // Writes the bytes of UTF-8.
-fn write_utf8(c: u32, out: &mut [u8]) -> usize
+pub fn write_utf8(c: u32, out: &mut [u8]) -> usize
     requires { ⌜ (c ≤ 0x10FFFF) × (length (utf8 c) ≤ length (now out)) ⌝ }
     ensures { λ r. ⌜ r ≡ length (utf8 c) ⌝ }
     ensures { λ _. ⌜ now (out .exit) ≡ over (utf8 c) (now (out .entry)) ⌝ }

@@ -2,24 +2,22 @@
 use Prim.Native.Nat.{ℕ, _≤_, _<_}
 use mathlib.Core.Path.{_≡_, refl, sym, ap, subst, _∙_}
 use mathlib.Core.Logic.{inl, inr, ⊎-elim}
-use mathlib.Core.List.{List, [], _∷_, _++_}
+use mathlib.Core.List.{List, [], _∷_}
 use native.Mathlib.Omega.{arith}
 use lib.ListN.{length, take, drop, length-append}
 use lib.Seq.{take-append-seam}
 use lib.Dec.{eqb}
 use borrow.Author.Tests.{eqb-true, eqb-false}
 use Rattle.model.proofs.Basics.{by-test}
-use Rattle.tokens.specs.Parse.{Parse, refused, parsed}
-use Rattle.syntax.specs.Tree.{Node}
 use Rattle.syntax.specs.Holding.{Holds}
 use Rattle.syntax.specs.Answer.{tableOf}
 use Rattle.syntax.proofs.Theorems.{read-table}
 use Rattle.syntax.specs.declared.answers.Answer.{Answer}
 use Rattle.definitions.specs.Accepting.{readSchema}
 use Rattle.schema.specs.Checking.{readDocument, checkAnswer, checkTable}
-use Rattle.schema.specs.Paths.{paths, pathTo, checkPath, listAfter}
+use Rattle.schema.specs.Paths.{paths, checkPath, listAfter}
 use Rattle.schema.proofs.Facts.{HasMismatch, has-mismatch, mismatch-found, mismatch-table, path-is, no-path}
-use Rattle.explain.specs.Pointers.{Pointer, pointers, fitted, pointerAt, pointerTo, checkPointer}
+use Rattle.explain.specs.Pointers.{Pointer, pointers, fitted, pointerAt, checkPointer}
 use Rattle.explain.specs.Writing.{Points, HasRows, PointerReady, PointerWritten}
 use Rattle.explain.specs.declared.explaining.Explained.{Explained}
 use Rattle.explain.proofs.pointers.Paths.{picked-rows}

@@ -1,10 +1,11 @@
 -- Bytes put into a buffer: one piece behind the other, and from place 0 on.
-use Prim.Native.Nat.{ℕ, suc, _+_, _≤_}
+use Prim.Native.Nat.{ℕ, suc, _+_, _≤_, _<_}
 use mathlib.Core.Path.{_≡_, refl, sym, ap, _∙_}
 use mathlib.Core.List.{List, [], _∷_, _++_}
+use native.Mathlib.Numerals.{add-one}
 use native.Mathlib.Omega.{arith}
-use lib.ListN.{length, set, length-append}
-use lib.Seq.{sets, length-sets, set-out}
+use lib.ListN.{length, getD, take, set, length-append}
+use lib.Seq.{sets, length-sets, set-out, take-suc, take-length}
 use Rattle.explain.specs.Pointers.{fitted}
 use Rattle.explain.specs.Writing.{Puts}
 
@@ -34,6 +35,27 @@ puts-append {u} {v} {i} {j} {k} {out} {out₂} {out₃} p q =
       holds =
           q .holds ∙ ap (λ (o : List ℕ). sets o j v) (p .holds) ∙ ap (λ (n : ℕ). sets (sets out i u) n v) (p .next) ∙ sym (sets-append u v out i);
     }
+
+-- bytes one behind the other: the first i of them, and one more
+abbrev pub PutsTo : List ℕ → ℕ → ℕ → List ℕ → List ℕ → Type 0
+PutsTo bytes at i out out₂ = Puts (take i bytes) at (at + i) out out₂
+
+pub puts-first : (bytes : List ℕ) (at : ℕ) (out : List ℕ) → PutsTo bytes at 0 out out
+puts-first bytes at out = record { next = refl; holds = refl }
+
+pub puts-one : (bytes : List ℕ) (at i : ℕ) {r : ℕ} {out out₂ out₃ : List ℕ} → i < length bytes → PutsTo bytes at i out out₂
+    → Puts (getD bytes i 0 ∷ []) (at + i) r out₂ out₃ → PutsTo bytes at (i + 1) out out₃
+puts-one bytes at i {r} {out} {out₂} {out₃} l p q =
+    let e : at + (i + 1) ≡ r = omega (arith, q .next) in
+    let t : take (i + 1) bytes ≡ take i bytes ++ (getD bytes i 0 ∷ []) = rw add-one (take-suc bytes i 0 l) in
+    rw (e, t) (puts-append p q)
+
+pub puts-all : (bytes : List ℕ) (at i : ℕ) {out out₂ : List ℕ} → i ≤ length bytes → length bytes ≤ i → PutsTo bytes at i out out₂
+    → Puts bytes at (at + i) out out₂
+puts-all bytes at i l m p =
+    let e : i ≡ length bytes = omega arith in
+    let t : take i bytes ≡ bytes = rw e (take-length bytes) in
+    rw t at p
 
 pub puts-as : {u w : List ℕ} {i k : ℕ} {out out₂ : List ℕ} → u ≡ w → Puts w i k out out₂ → Puts u i k out out₂
 puts-as e p = rw e p

@@ -1,32 +1,31 @@
 -- A character of a reference token, by cases.
-use Prim.Native.Nat.{ℕ, _/_, _%_, _+_, _≤_, _<_}
+use Prim.Native.Nat.{ℕ, _≤_}
 use mathlib.Core.Path.{_≡_}
-use mathlib.Core.List.{[], _∷_}
+use mathlib.Core.List.{List, [], _∷_}
 use native.Mathlib.Omega.{arith}
-use borrow.Author.Tests.{ne-eqb, lt-ltb, le-ltb}
+use lib.ListN.{length, take, drop}
+use lib.Seq.{take-append-seam}
+use lib.Dec.{ltb}
+use borrow.Author.Tests.{ne-eqb}
+use Rattle.model.proofs.Basics.{both}
 use Rattle.grammar.specs.Utf8.{utf8}
+use Rattle.writer.specs.Compact.{over}
 use Rattle.explain.specs.Pointers.{tokenChar}
 
 module _ (c : ℕ) where
-  -- ---- UTF-8, by how many bytes it takes
-
-  pub utf8-one : c < 0x80 → utf8 c ≡ c ∷ []
+  -- a character has at most four bytes in UTF-8
+  pub utf8-short : length (utf8 c) ≤ 4
   unfolding utf8
-  utf8-one l = rw (lt-ltb c 0x80 l)
+  utf8-short =
+      both Short (ltb c 0x80) (λ _. omega arith)
+      (λ _. both Short (ltb c 0x800) (λ _. omega arith) (λ _. both Short (ltb c 0x10000) (λ _. omega arith) (λ _. omega arith)))
+    where
+      Short : List ℕ → Type 0
+      Short w = length w ≤ 4
 
-  pub utf8-two : 0x80 ≤ c → c < 0x800 → utf8 c ≡ (0xC0 + c / 64) ∷ (0x80 + c % 64) ∷ []
-  unfolding utf8
-  utf8-two m l = rw (le-ltb c 0x80 m, lt-ltb c 0x800 l)
-
-  pub utf8-three : 0x800 ≤ c → c < 0x10000 → utf8 c ≡ (0xE0 + c / 4096) ∷ (0x80 + c / 64 % 64) ∷ (0x80 + c % 64) ∷ []
-  unfolding utf8
-  utf8-three m l = rw (le-ltb c 0x80 (omega arith), le-ltb c 0x800 m, lt-ltb c 0x10000 l)
-
-  pub utf8-four : 0x10000 ≤ c → utf8 c ≡ (0xF0 + c / 262144) ∷ (0x80 + c / 4096 % 64) ∷ (0x80 + c / 64 % 64) ∷ (0x80 + c % 64) ∷ []
-  unfolding utf8
-  utf8-four m = rw (le-ltb c 0x80 (omega arith), le-ltb c 0x800 (omega arith), le-ltb c 0x10000 m)
-
-  -- ---- escaped, and unescaped
+  -- as it was written to a buffer
+  pub utf8-written : {n : ℕ} (buffer : List ℕ) {w : List ℕ} → n ≡ length (utf8 c) → w ≡ over (utf8 c) buffer → take n w ≡ utf8 c
+  utf8-written buffer e q = rw (e, q) (take-append-seam (utf8 c) (drop (length (utf8 c)) buffer))
 
   pub token-tilde : c ≡ 0x7E → tokenChar c ≡ 0x7E ∷ 0x30 ∷ []
   unfolding tokenChar

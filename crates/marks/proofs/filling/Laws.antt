@@ -7,7 +7,7 @@ use native.Mathlib.Numerals.{add-one}
 use native.Mathlib.Omega.{arith}
 use mathlib.Core.Bool.{cond}
 use lib.ListN.{length, getD, take, drop, set, length-append, length-set, List·getD-append}
-use lib.Seq.{sets, sets-eq, take-suc, length-take-le, length-sets, getD-take, getD-append-add, getD-set-same, getD-set-other}
+use lib.Seq.{sets, sets-eq, take-suc, length-take-le, getD-take, getD-append-add, getD-set-same, getD-set-other}
 use lib.Dec.{ltb, eqb}
 use borrow.Author.Tests.{ltb-true, ltb-false, le-ltb, eqb-true, eqb-false}
 use Rattle.model.proofs.Basics.{both, by-test}

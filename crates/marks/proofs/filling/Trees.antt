@@ -10,10 +10,10 @@ use borrow.Author.Tests.{ltb-true, ltb-false}
 use Rattle.model.proofs.Basics.{by-test}
 use Rattle.syntax.specs.Tree.{Node, scalar, array, object, Nodes, none, more, Members, no-member, member}
 use Rattle.syntax.specs.Rows.{Entry, size, sizes, sizesMembers, entries, entriesAll, entriesMembers, parents, parentsAll, parentsMembers, layOut, words}
-use Rattle.syntax.proofs.Facts.{size-pos, entries-length, parents-length, noEntry, Each, each, each-left, each-right, each-join, each-at}
+use Rattle.syntax.proofs.Facts.{entries-length, parents-length, noEntry, Each, each, each-left, each-right, each-join, each-at}
 use Rattle.marks.specs.Marks.{markEntry, markEntries}
 use Rattle.marks.specs.Filling.{lastOpen, parentsTo, markSize, markWords, FillReady}
-use Rattle.marks.proofs.marks.Laws.{marks-length, marks-at}
+use Rattle.marks.proofs.marks.Laws.{marks-at}
 use Rattle.marks.proofs.filling.Laws.{last-is, parents-count, parents-at}
 
 module _ (rows : ℕ → ℕ) where

@@ -1,6 +1,6 @@
 -- Check with the list for the path: what it promises, on plain values.
 use Prim.Native.Nat.{ℕ, _≤_, _<_}
-use mathlib.Core.Path.{_≡_, refl, sym, ap, _∙_}
+use mathlib.Core.Path.{_≡_, refl, sym, ap}
 use mathlib.Core.Logic.{_↔_}
 use mathlib.Core.List.{List, []}
 use native.Mathlib.Omega.{arith}

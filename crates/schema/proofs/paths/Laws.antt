@@ -1,7 +1,6 @@
 -- The path to a value on plain values: its row is the first that begins at the place, and from there the sixth words lead up.
 use Prim.Native.Nat.{ℕ, zero, suc, _+_, _-_, _*_, _≤_, _<_}
 use mathlib.Core.Path.{_≡_, refl, sym, ap, _∙_}
-use mathlib.Core.Logic.{_⊎_, inl, inr, ⊎-elim}
 use mathlib.Core.Bool.{Bool, true, false, cond, not, and-false}
 use mathlib.Core.Option.{Option, none, some}
 use mathlib.Core.List.{List, [], _∷_, _++_, append-assoc}
@@ -11,12 +10,11 @@ use lib.Seq.{drop-cons, set-at, length-front, length-take-le}
 use lib.Dec.{eqb}
 use borrow.Author.Tests.{eqb-true, eq-eqb, ne-eqb}
 use Rattle.model.proofs.Basics.{both, by-test, never}
-use Rattle.tokens.specs.Tokens.{kindNumber}
 use Rattle.syntax.specs.Tree.{Node, scalar, array, object, Nodes, none as no-node, more, Members, no-member, member}
 use Rattle.syntax.specs.Rows.{rowWords, size, sizes, sizesMembers}
 use Rattle.syntax.specs.Holding.{word, Row, Holds, HoldsAll, HoldsMembers, Nested, NestedAll, NestedMembers}
 use Rattle.syntax.proofs.Facts.{kind-small, holds-same, size-pos, Shallow, ShallowAll, ShallowMembers}
-use Rattle.schema.specs.Paths.{Path, path, paths, pathsAll, pathsMembers, pathTo, listAfter, Leads, top, up}
+use Rattle.schema.specs.Paths.{Path, paths, pathsAll, pathsMembers, pathTo, listAfter, Leads, top, up}
 use Rattle.schema.specs.Climbing.{beginsAt, firstAt, orTop, ClimbReady, Climbed, PathReady, PathWritten}
 
 -- ---- the first row that begins at a place

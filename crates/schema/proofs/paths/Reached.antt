@@ -1,8 +1,7 @@
 -- The value at the place of a mismatch is one of the document's, so that there is a path to it, which has at most 33 rows (02, L11).
 use Prim.Native.Nat.{ℕ, _+_, _≤_, _<_}
 use mathlib.Core.Path.{_≡_, refl, sym, ap, _∙_}
-use mathlib.Core.Bool.{Bool, true, false, cond, _&&_}
-use mathlib.Core.Option.{Option, none, some}
+use mathlib.Core.Option.{Option, some}
 use mathlib.Core.List.{List, [], _∷_, _++_}
 use native.Mathlib.Omega.{arith}
 use lib.ListN.{length}
@@ -24,11 +23,11 @@ use Rattle.definitions.specs.Accepting.{Accepted, not-accepted, accepted, accep
 use Rattle.definitions.proofs.Facts.{Way, accept-way}
 use Rattle.rows.specs.Finding.{lookup}
 use Rattle.schema.specs.Judging.{mismatchAt}
-use Rattle.schema.specs.Checking.{readDocument, mismatchAnswer, judgedAs, checkedAs, checkAnswer, tableAfter, checkTable}
-use Rattle.schema.specs.Paths.{Path, paths, pathsAll, pathsMembers, pathTo, isMismatch, pathOf, checkPath, listAfter, pathWords}
+use Rattle.schema.specs.Checking.{readDocument, mismatchAnswer, judgedAs, checkAnswer, checkTable}
+use Rattle.schema.specs.Paths.{Path, paths, pathsAll, pathsMembers, pathTo, pathOf, checkPath, listAfter, pathWords}
 use Rattle.schema.specs.Climbing.{PathReady, PathWritten}
 use Rattle.schema.proofs.judging.Codes.{mismatch-codes}
-use Rattle.schema.proofs.judging.First.{Real, mismatch-real}
+use Rattle.schema.proofs.judging.First.{mismatch-real}
 use Rattle.schema.proofs.judging.Order.{joinNodes, joinMembers, Judges, itself, element, value, required, optional}
 use Rattle.schema.proofs.paths.Laws.{Short, all-short, picked}
 

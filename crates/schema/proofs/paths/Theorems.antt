@@ -1,21 +1,19 @@
 -- The path on Check's terms (02, L11): it begins with the row of the value at the place, the sixth words lead from each row to the next, up to 0, and
 -- it has at most 33 rows.
 use Prim.Native.Nat.{ℕ, _+_, _≤_}
-use mathlib.Core.Path.{_≡_, refl, sym, ap, _∙_}
+use mathlib.Core.Path.{_≡_, refl, ap, _∙_}
 use mathlib.Core.List.{List, [], _∷_}
 use native.Mathlib.Omega.{arith}
 use lib.ListN.{length}
 use lib.Dec.{ltb}
 use borrow.Author.Tests.{ltb-true, ltb-false}
 use Rattle.model.proofs.Basics.{by-test}
-use Rattle.tokens.specs.Tokens.{kindNumber}
 use Rattle.syntax.specs.Tree.{Node, scalar, array, object, Nodes, none as no-node, more, Members, no-member, member}
 use Rattle.syntax.specs.Rows.{size}
 use Rattle.syntax.specs.Holding.{word, Holds, HoldsAll, HoldsMembers}
 use Rattle.syntax.proofs.Facts.{kind-small}
 use Rattle.schema.specs.Checking.{checkAnswer, checkTable}
-use Rattle.schema.specs.Paths.{Path, paths, pathsAll, pathsMembers, pathTo, checkPath, pathWords, Leads, top}
-use Rattle.schema.specs.Climbing.{PathReady}
+use Rattle.schema.specs.Paths.{Path, paths, pathsAll, pathsMembers, checkPath, pathWords, Leads, top}
 use Rattle.schema.proofs.paths.Laws.{AllPaths, all-append, picked, LeadsUp, all-lead}
 use Rattle.schema.proofs.paths.Reached.{HasMismatch, has-mismatch, path-is, mismatch-few, mismatch-found, mismatch-holds, no-path}
 

@@ -14,12 +14,14 @@ plain c =
 
 pub put-char-spec : {M : Type 1} → statement M
 put-char-spec = tie.close (tie.spec
-    (λ c κs. search needs)  -- put-two-requires
+    (λ c. search needs)  -- slice-aggregate-put-all
+    (λ c κs. search needs)  -- put-all-requires
     (λ c. search needs)  -- same-length
-    (λ c. let b = c .before .before in puts-as (token-tilde _ (b .before .before .if1 .taken)) (b .put-two .ensures))  -- returns
-    (λ c κs. search needs)  -- put-two-requires-2
+    (λ c. let b = c .before .before in puts-as (token-tilde _ (b .before .before .before .if1 .taken)) (b .put-all .ensures))  -- returns
+    (λ c. search needs)  -- slice-aggregate-put-all-2
+    (λ c κs. search needs)  -- put-all-requires-2
     (λ c. search needs)  -- same-length-2
-    (λ c. let b = c .before .before in puts-as (token-slash _ (b .before .before .if2 .taken)) (b .put-two2 .ensures))  -- returns-2
+    (λ c. let b = c .before .before in puts-as (token-slash _ (b .before .before .before .if2 .taken)) (b .put-all2 .ensures))  -- returns-2
     (λ c κs. search needs)  -- put-utf8-requires
     (λ c. search needs)  -- same-length-3
     plain)

@@ -1,54 +1,32 @@
--- `explain::pieces::put_utf8` meets its contract: each way by the law of its bytes.
+-- `explain::pieces::put_utf8` meets its contract: the bytes that were written are put.
+use mathlib.Core.Path.{_≡_, refl, sym}
+use Prim.Native.Nat.{_≤_}
+use lib.ListN.{length}
 use native.Mathlib.Omega.{arith}
+use lib.Seq.{length-take-le}
 use borrow.Author.Needs.{needs}
-use Rattle.explain.proofs.pieces.Buffers.{puts-append, puts-as}
-use Rattle.explain.proofs.pieces.Characters.{utf8-one, utf8-two, utf8-three, utf8-four}
+use Rattle.explain.proofs.pieces.Buffers.{puts-as}
+use Rattle.explain.proofs.pieces.Characters.{utf8-short, utf8-written}
 use Rattle.explain.proofs.pieces.put_utf8.Statement.{statement}
 use Rattle.explain.proofs.pieces.put_utf8.Tie as tie
 
--- where the first two bytes are put, of three and of four
-abbrev of-three : tie.After-put2 → tie.After-put-two2
-of-three c = c .before .before .before .before
+abbrev start : tie.After-write-utf8 → tie.Start
+start c = c .before .before .before
 
-abbrev of-four : tie.After-put-two4 → tie.After-put-two3
-of-four c = c .before .before .before .before
-
-three : tie.Need-returns-3
-three c =
-    let b = c .before .before in
-    puts-as (utf8-three _ (omega arith) (omega arith)) (puts-append (of-three b .put-two2 .ensures) (b .put2 .ensures))
-
-four : tie.Need-returns-4
-four c =
-    let b = c .before .before in
-    puts-as (utf8-four _ (omega arith)) (puts-append (of-four b .put-two3 .ensures) (b .put-two4 .ensures))
+-- what was written lies in the array
+fits : (c : tie.After-write-utf8) → c .write-utf8 .result ≤ length (c .write-utf8 .last .1 .0)
+fits c = omega (arith, utf8-short (start c .args .c), c .write-utf8 .ensures .0, whole c)
+  where
+    whole : (c : tie.After-write-utf8) → length (c .write-utf8 .last .1 .0) ≡ 4
+    whole c = search needs
 
 pub put-utf8-spec : {M : Type 1} → statement M
 put-utf8-spec = tie.close (tie.spec
-    (λ c. search needs)  -- c as u8
-    (λ c κs. search needs)  -- put-requires
+    (λ c. refl)  -- slice-aggregate-write-utf8
+    (λ c κs. (omega arith, utf8-short _))  -- write-utf8-requires
+    (λ c. fits (c .before .before))  -- array-share-prefix-bytes
+    (λ c. sym (length-take-le _ _ (fits (c .before .before .before))))  -- slice-aggregate-put-all
+    (λ c κs. let w = c .before .before .before in omega (arith, length-take-le (w .write-utf8 .result) (w .write-utf8 .last .1 .0) (fits w), utf8-short (start w .args .c), w .write-utf8 .ensures .0))  -- put-all-requires
     (λ c. search needs)  -- same-length
-    (λ c. puts-as (utf8-one _ (omega arith)) (c .before .before .put .ensures))  -- one byte
-    (λ c. search needs)  -- (c % 64) as u8
-    (λ c. search needs)  -- last
-    (λ c. search needs)  -- (c / 64) as u8
-    (λ c. search needs)  -- 0xc0 + ..
-    (λ c κs. search needs)  -- put-two-requires
-    (λ c. search needs)  -- same-length-2
-    (λ c. puts-as (utf8-two _ (omega arith) (omega arith)) (c .before .before .put-two .ensures))  -- two bytes
-    (λ c. search needs)  -- (c / 64 % 64) as u8
-    (λ c. search needs)  -- third
-    (λ c. search needs)  -- (c / 4096) as u8
-    (λ c. search needs)  -- 0xe0 + ..
-    (λ c κs. search needs)  -- put-two-requires-2
-    (λ c κs. search needs)  -- put-requires-2
-    (λ c. search needs)  -- same-length-3
-    three
-    (λ c. search needs)  -- (c / 262144) as u8
-    (λ c. search needs)  -- first
-    (λ c. search needs)  -- (c / 4096 % 64) as u8
-    (λ c. search needs)  -- 0x80 + ..
-    (λ c κs. search needs)  -- put-two-requires-3
-    (λ c κs. search needs)  -- put-two-requires-4
-    (λ c. search needs)  -- same-length-4
-    four)
+    (λ c. let p = c .before .before in let w = p .before .before .before .before in
+    puts-as (sym (utf8-written (start w .args .c) _ (w .write-utf8 .ensures .0) (w .write-utf8 .ensures .1))) (p .put-all .ensures)))  -- returns

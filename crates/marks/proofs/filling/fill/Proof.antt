@@ -1,12 +1,12 @@
 -- `fill` meets its contract. Invariant: the rows of the marks passed are stored, and the marks say where to go on. Measure: how many marks
 -- are left.
-use mathlib.Core.Path.{_≡_, refl, sym, ap, _∙_}
+use mathlib.Core.Path.{_≡_, refl, ap, _∙_}
 use mathlib.Core.Logic.{⊎-elim}
 use mathlib.Core.List.{List}
 use Prim.Native.Nat.{ℕ, _≤_, _<_, _+_, _-_}
 use native.Mathlib.Omega.{arith}
 use lib.ListN.{length, getD, set, length-set}
-use lib.Seq.{sets, length-sets}
+use lib.Seq.{length-sets}
 use borrow.Author.Needs.{needs}
 use Rattle.syntax.specs.Holding.{word}
 use Rattle.marks.specs.Marks.{markEntry}

@@ -1,8 +1,6 @@
 -- `climb` meets its contract. Invariant: the rows passed are listed, and the sixth words lead on from `row`. Measure: that row.
-use mathlib.Core.Path.{ap, _∙_}
 use native.Mathlib.Omega.{arith}
-use lib.ListN.{length, length-set}
-use borrow.Author.Needs.{needs}
+use lib.ListN.{length-set}
 use Rattle.schema.proofs.paths.Laws.{OnTheWay, way-begins, way-room, way-less, way-on, top-room, way-ends, way-length}
 use Rattle.schema.proofs.paths.climb.Statement.{statement}
 use Rattle.schema.proofs.paths.climb.Tie as tie
