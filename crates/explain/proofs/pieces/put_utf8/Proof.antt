@@ -26,7 +26,8 @@ put-utf8-spec = tie.close (tie.spec
     (λ c κs. (omega arith, utf8-short _))  -- write-utf8-requires
     (λ c. fits (c .before .before))  -- array-share-prefix-bytes
     (λ c. sym (length-take-le _ _ (fits (c .before .before .before))))  -- slice-aggregate-put-all
-    (λ c κs. let w = c .before .before .before in omega (arith, length-take-le (w .write-utf8 .result) (w .write-utf8 .last .1 .0) (fits w), utf8-short (start w .args .c), w .write-utf8 .ensures .0))  -- put-all-requires
+    (λ c κs. let w = c .before .before .before in
+    omega (arith, length-take-le _ (w .write-utf8 .last .1 .0) (fits w), utf8-short (start w .args .c), w .write-utf8 .ensures .0))  -- put-all-requires
     (λ c. search needs)  -- same-length
     (λ c. let p = c .before .before in let w = p .before .before .before .before in
     puts-as (sym (utf8-written (start w .args .c) _ (w .write-utf8 .ensures .0) (w .write-utf8 .ensures .1))) (p .put-all .ensures)))  -- returns

@@ -11,7 +11,9 @@ use borrow.Author.Needs.{needs}
 use Rattle.syntax.specs.Holding.{word}
 use Rattle.marks.specs.Marks.{markEntry}
 use Rattle.marks.specs.Filling.{markSize, onward}
-use Rattle.marks.proofs.filling.Laws.{Stored, Filling, Standing, words-none, row-stored, stands-here, stands-up, up-below, stored-size, standing-is, filling-same, filling-begins, filled-list, filled-leaf, rows-stored}
+use Rattle.marks.proofs.filling.Laws.{Stored, words-none, row-stored, stored-size, rows-stored}
+use Rattle.marks.proofs.filling.Laws.{Filling, filling-same, filling-begins, filled-list, filled-leaf}
+use Rattle.marks.proofs.filling.Laws.{Standing, standing-is, stands-here, stands-up, up-below}
 use Rattle.marks.proofs.filling.fill.Statement.{statement}
 use Rattle.marks.proofs.filling.fill.Tie as tie
 
