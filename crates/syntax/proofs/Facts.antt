@@ -18,3 +18,5 @@ pub use Rattle.syntax.proofs.rows.Laws.{entries-length, parents-length,
 pub use Rattle.syntax.proofs.Holding.{holds-same, kind-same, kind-small}
 -- how deep a tree is
 pub use Rattle.syntax.proofs.Depth.{Shallow, ShallowAll, ShallowMembers, read-shallow}
+-- in which order values begin
+pub use Rattle.syntax.proofs.Places.{places, placesAll, placesMembers, Rising, read-rising}

@@ -72,7 +72,7 @@ byte-in s i b l q = in-text s i (omega arith)
 
 module _ {L : Type 0} (closing : ℕ) (s : List ℕ) (all : L) (j : ℕ) where
   -- the three ways behind an item
-  after-ways : (P : Parse L → Type 0) (rest : ℕ → Parse L) → (byteAt s j ≡ 0x2C → P (rest j)) → (byteAt s j ≡ closing → P (parsed all (j + 1)))
+  pub after-ways : (P : Parse L → Type 0) (rest : ℕ → Parse L) → (byteAt s j ≡ 0x2C → P (rest j)) → (byteAt s j ≡ closing → P (parsed all (j + 1)))
       → P (unexpected s j) → P (afterItem closing rest s all j)
   unfolding afterItem
   after-ways P rest f g h =

@@ -5,6 +5,7 @@ pub mod Holding
 pub mod Induction
 pub mod Items
 pub mod Json
+pub mod Places
 pub mod Placing
 pub mod Sizes
 pub mod Theorems
