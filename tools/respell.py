@@ -62,10 +62,23 @@ def declared():
     return names
 
 
+def of_libraries():
+    """The names that files take from libraries: one of the same name here keeps it too."""
+    names = set()
+    for path in walk("crates", (".antt", ".rt")):
+        for module, items in re.findall(r"use ([\w.+-]+)\.\{([^}]*)\}", read(path)):
+            parts = module.split(".")
+            if parts[0] != "Rattle" or not os.path.isdir(os.path.join("crates", parts[1])):
+                names |= {n.strip().split(" as ")[0] for n in items.split(",")}
+    return names
+
+
 def table():
     """The names, old and new. Where two fall together, the definition has the name: a lemma of that name ends with `_lem`, and what stands inside a
     block keeps its dash."""
     names = declared()
+    for n in of_libraries():
+        names.pop(n, None)
     renamed = {n: snake(n) for n in names if snake(n) != n}
     together = []
     groups = {}

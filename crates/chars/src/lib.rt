@@ -1,4 +1,6 @@
 // What a text is made of: bytes, characters, strings, and names with a hash of their characters.
+#![tactic(auto)]
+
 mod bytes;
 mod characters;
 mod hashing;

@@ -1,4 +1,6 @@
 // Compare (01, "Three services"): whether every value that meets a new schema meets an old one.
+#![tactic(auto)]
+
 mod carrying;
 mod comparing;
 mod fields;

@@ -1,4 +1,6 @@
 // What a program needs around a service: its command, the files that its arguments name, and the lines that it prints.
+#![tactic(auto)]
+
 mod commands;
 mod excerpts;
 mod files;

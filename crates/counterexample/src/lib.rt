@@ -1,4 +1,6 @@
 // A document that the old board cannot read (02, L1).
+#![tactic(auto)]
+
 mod exhibiting;
 mod witnesses;
 

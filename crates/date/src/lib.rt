@@ -1,4 +1,6 @@
 // Dates (01, "Dates"; 02, L2 and L3; RFC 3339, section 5.6).
+#![tactic(auto)]
+
 mod calendar;
 mod days;
 mod endings;

@@ -1,4 +1,6 @@
 // What is a definition (01, "Definitions"), and which schemas are accepted.
+#![tactic(auto)]
+
 mod accepting;
 mod definitions;
 mod shapes;

@@ -9,7 +9,7 @@ use lib.Dec.{eqb, leb, ltb}
 use borrow.Author.Tests.{eqb-true, leb-true, ltb-true, lt-ltb}
 use Rattle.model.specs.Text.{text, all}
 use Rattle.model.specs.Value.{Value, null, boolean, number, string, array, object, vnil, Members, mnil, is_digit, IsNumber}
-use Rattle.model.proofs.Basics.{and_ways, or_true}
+use Rattle.model.proofs.Basics.{and_ways, or-true}
 use Rattle.grammar.specs.Utf8.{IsUtf8, utf8_1, utf8_2, utf8_3, utf8_4}
 use Rattle.grammar.specs.Written.{Language, IsSpace, IsHexDigit, decimal, upper, lower, IsHex, hex, IsChar, unescaped, short, unicode}
 use Rattle.grammar.specs.Written.{surrogates, IsShort, quotation_mark, reverse_solidus, solidus, backspace, form_feed, line_feed}
@@ -46,7 +46,7 @@ written w h = tested (λ b. ltb b 256) (λ b t. ltb-true b 256 t) w h
 
 -- one byte more that may stand there
 or_byte : (b k : ℕ) (t : Bool) → k < 256 → (t ≡ true → b < 256) → t || eqb b k ≡ true → b < 256
-or_byte b k t l f h = ⊎_elim f (λ u. omega (arith, eqb-true b k u)) (or_true t (eqb b k) h)
+or_byte b k t l f h = ⊎_elim f (λ u. omega (arith, eqb-true b k u)) (or-true t (eqb b k) h)
 
 either : (b j k : ℕ) → j < 256 → k < 256 → eqb b j || eqb b k ≡ true → b < 256
 either b j k l m h = or_byte b k (eqb b j) m (λ u. omega (arith, eqb-true b j u)) h

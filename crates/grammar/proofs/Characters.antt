@@ -9,7 +9,7 @@ use lib.Dec.{ltb, leb, eqb}
 use borrow.Author.Tests.{ltb-true, ltb-false, leb-true, eqb-true, eqb-false, lt-ltb, le-ltb, le-leb, eq-eqb, ne_eqb}
 use Rattle.chars.specs.Bytes.{from_to, digit, escape_of, lowest, highest, six_bits}
 use Rattle.chars.specs.Characters.{pair_value}
-use Rattle.model.proofs.Basics.{both, clash, by_test, not_true}
+use Rattle.model.proofs.Basics.{both, clash, by_test, not-true}
 use Rattle.chars.proofs.Facts.{six_ways, lowest_least, lowest_of, highest_of, outside}
 use Rattle.grammar.specs.Utf8.{In, IsTail, StartsThree, e0, e1_ec, ed, ee_ef, StartsFour, f0, f1_f3, f4, IsUtf8, utf8_1, utf8_2, utf8_3, utf8_4}
 use Rattle.grammar.specs.Written.{IsUnescaped, IsHexDigit, decimal, upper, lower, IsHex, hex as hex-digits, IsChar, unescaped, short}
@@ -253,7 +253,7 @@ module _ {a b c d x y p q : ℕ} (k : IsHexDigit a x) (l : IsHexDigit b y) (m : 
       no_surrogate e =
           let s = small k l m n in
           let i : 0xDB < 16 * x + y = outside 0xD8 0xDB (16 * x + y) t (omega arith) in
-          let j : 0xDF < 16 * x + y = outside 0xDC 0xDF (16 * x + y) (not_true _ g) (omega arith) in
+          let j : 0xDF < 16 * x + y = outside 0xDC 0xDF (16 * x + y) (not-true _ g) (omega arith) in
           omega arith
 
   digits_lang : (r : List ℕ) (v : ℕ) → (In 0xDC 0xDF (16 * x + y) → ⊥) → Lang (digits_tree (16 * x + y) (16 * p + q)) r v
@@ -284,7 +284,7 @@ escape_char : (w : List ℕ) (v : ℕ) → Lang escape_tree w v → IsChar (0x5C
 escape_char [] v h = absurd h
 escape_char (b ∷ w) v h =
     both (λ t. Lang t w v → IsChar (0x5C ∷ b ∷ w) v) (eqb b 0x75) (λ t g. rw (eqb-true b 0x75 t) (unicode_char w v g))
-    (λ t g. let n : not (eqb (escape_of b) 0) ≡ true = rw t at h.0 in give_ways (λ w. IsChar (0x5C ∷ b ∷ w)) _ w v g (short (is_short b (not_true _ n)))) h.1
+    (λ t g. let n : not (eqb (escape_of b) 0) ≡ true = rw t at h.0 in give_ways (λ w. IsChar (0x5C ∷ b ∷ w)) _ w v g (short (is_short b (not-true _ n)))) h.1
 
 -- ---- characters
 

@@ -8,7 +8,7 @@ use lib.Dec.{eqb}
 use borrow.Author.Tests.{eqb-true}
 use Rattle.model.specs.Text.{all}
 use Rattle.model.specs.Value.{is_digit, is_digits, is_fraction, is_power, is_exponent, IsNumber}
-use Rattle.model.proofs.Basics.{and_ways, or_true, all_append, all_imp}
+use Rattle.model.proofs.Basics.{and_ways, or-true, all_append, all_imp}
 use Rattle.model.proofs.Integers.{int_all}
 
 module _ (p : ℕ → Bool) (digit : (c : ℕ) → is_digit c ≡ true → p c ≡ true)
@@ -18,7 +18,7 @@ module _ (p : ℕ → Bool) (digit : (c : ℕ) → is_digit c ≡ true → p c �
 
   -- one of two bytes that pass, and bytes that do behind it
   either : (c j k : ℕ) (w : List ℕ) → p j ≡ true → p k ≡ true → eqb c j || eqb c k ≡ true → all p w ≡ true → all p (c ∷ w) ≡ true
-  either c j k w t u h r = ⊎_elim (λ e. rw (eqb-true c j e, t) r) (λ e. rw (eqb-true c k e, u) r) (or_true (eqb c j) (eqb c k) h)
+  either c j k w t u h r = ⊎_elim (λ e. rw (eqb-true c j e, t) r) (λ e. rw (eqb-true c k e, u) r) (or-true (eqb c j) (eqb c k) h)
 
   digits : (w : List ℕ) → all is_digit w ≡ true → all p w ≡ true
   digits w h = all_imp is_digit p digit w h
@@ -36,7 +36,7 @@ module _ (p : ℕ → Bool) (digit : (c : ℕ) → is_digit c ≡ true → p c �
   power (c ∷ w) h =
       ⊎_elim (λ t. some_digits (c ∷ w) t)
       (λ t. and_ways (eqb c 0x2B || eqb c 0x2D) (is_digits w) t (λ u v. either c 0x2B 0x2D w plus minus u (some_digits w v)))
-      (or_true (is_digits (c ∷ w)) ((eqb c 0x2B || eqb c 0x2D) && is_digits w) h)
+      (or-true (is_digits (c ∷ w)) ((eqb c 0x2B || eqb c 0x2D) && is_digits w) h)
 
   exponent : (w : List ℕ) → is_exponent w ≡ true → all p w ≡ true
   exponent [] h = refl

@@ -2,7 +2,7 @@
 use Prim.Native.Nat.{ℕ, suc, ◌+◌, ◌≤◌, ◌<◌}
 use mathlib.Core.Path.{◌≡◌, refl, sym, ap, ◌∙◌, subst}
 use mathlib.Core.Logic.{◌⊎◌, inl, inr, ⊎_elim}
-use mathlib.Core.Bool.{Bool, true, false, ◌&&◌, ◌||◌, or_true}
+use mathlib.Core.Bool.{Bool, true, false, ◌&&◌, ◌||◌, or-true}
 use mathlib.Core.List.{List, [], ◌∷◌, ◌++◌, append_assoc}
 use native.Mathlib.Omega.{arith}
 use lib.ListN.{length, length-append}
@@ -10,7 +10,7 @@ use lib.Dec.{eqb, leb}
 use borrow.Author.Tests.{eqb-true, eqb-false, ne_eqb, leb-true, le-leb}
 use Rattle.model.specs.Text.{text, all, same}
 use Rattle.model.specs.Value.{number, is_digit, is_digits, is_int, is_fraction, is_power, is_exponent, IsNumber}
-use Rattle.model.proofs.Basics.{clash, or_true as or_ways, or_false, same_eq, both, and_ways}
+use Rattle.model.proofs.Basics.{clash, or-true as or_ways, or-false, same_eq, both, and_ways}
 use Rattle.chars.specs.Bytes.{byte_at}
 use Rattle.tokens.specs.Parse.{Parse, parsed}
 use Rattle.chars.specs.Runs.{run}
@@ -44,7 +44,7 @@ sign_zero : (s : List ℕ) (j : ℕ) → j ≤ length s → (sign_end s j ≤ le
 unfolding sign_end
 sign_zero s j l =
     both (λ p. (p ≤ length s) × (is_power (part s j p ++ text "0") ≡ true)) (is_sign (byte_at s j))
-    (λ t. let m = either_in s j 0x2B 0x2D (omega arith) (omega arith) t in (omega arith, rw (part_one s j m, t, or_true)))
+    (λ t. let m = either_in s j 0x2B 0x2D (omega arith) (omega arith) t in (omega arith, rw (part_one s j m, t, or-true)))
     (λ _. (l, rw (part_none s j)))
 
 -- a number by its parts
@@ -121,8 +121,8 @@ Numeric k = (s : List ℕ) (f e : ℕ) → scalar_of s k f e ≡ number (part s 
 
 follow_ways : (b : ℕ) → Follow b → (is_digit b ≡ false) × (eqb b 0x2E ≡ false) × (is_e b ≡ false)
 follow_ways b f =
-    let x = or_false (is_digit b) (eqb b 0x2E || (is_e b)) f in
-    let y = or_false (eqb b 0x2E) (is_e b) x.1 in
+    let x = or-false (is_digit b) (eqb b 0x2E || (is_e b)) f in
+    let y = or-false (eqb b 0x2E) (is_e b) x.1 in
     (x.0, y.0, y.1)
 
 -- the outcome is a number that ends at e

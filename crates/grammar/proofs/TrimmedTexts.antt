@@ -6,7 +6,7 @@ use mathlib.Core.Bool.{Bool, true, false, ◌||◌, or_assoc}
 use mathlib.Core.List.{List, [], ◌∷◌, ◌++◌, append_assoc}
 use Rattle.model.specs.Text.{same}
 use Rattle.model.specs.Value.{Value, array, object, Values, vnil, vcons, Members, mnil, mcons, has_name}
-use Rattle.model.proofs.Basics.{or_false, same_comm}
+use Rattle.model.proofs.Basics.{or-false, same_comm}
 use Rattle.grammar.specs.Written.{Language, structural, values, IsArray, is-array, Member, IsMember, is_member, members, Differ}
 use Rattle.grammar.specs.Written.{IsObject, is-object, IsValue, IsJsonText, is-text}
 use Rattle.grammar.proofs.Trimmed.{Padded, add_value, add_member, TrimmedElement, TrimmedMember, TrimmedBracketed, TrimmedArray}
@@ -96,13 +96,13 @@ has_last k (mcons m u ms) n v = ap (λ (b : Bool). same k m || b) (has_last k ms
 differ_last : (ms : Members) (n : List ℕ) (v : Value) → Differ ms → has_name n ms ≡ false → Differ (add_member ms n v)
 differ_last mnil n v d h = (refl, tt)
 differ_last (mcons m u ms) n v d h =
-    let x = or_false (same n m) (has_name n ms) h in
+    let x = or-false (same n m) (has_name n ms) h in
     (has_last m ms n v ∙ rw (d.0, same_comm m n) x.0, differ_last ms n v d.1 x.1)
 
 last_differs : (ms : Members) (n : List ℕ) (v : Value) → Differ (add_member ms n v) → Differ ms × (has_name n ms ≡ false)
 last_differs mnil n v d = (tt, refl)
 last_differs (mcons m u ms) n v d =
-    let x = or_false (has_name m ms) (same m n) (sym (has_last m ms n v) ∙ d.0) in
+    let x = or-false (has_name m ms) (same m n) (sym (has_last m ms n v) ∙ d.0) in
     let r = last_differs ms n v d.1 in
     ((x.0, r.0), rw (same_comm n m, x.1) r.1)
 

@@ -8,7 +8,7 @@ use native.Mathlib.Omega.{arith}
 use lib.Dec.{ltb, leb, eqb}
 use borrow.Author.Tests.{ltb-true, ltb-false, leb-true, eqb-true, eqb-false, lt-ltb, le-ltb, le-leb}
 use Rattle.model.specs.Text.{is_scalar}
-use Rattle.model.proofs.Basics.{both, and_ways, by_test, or_true, or_left, or_right}
+use Rattle.model.proofs.Basics.{both, and_ways, by_test, or-true, or_left, or_right}
 use Rattle.grammar.specs.Utf8.{In, IsTail, StartsThree, e0, e1_ec, ed, ee_ef, StartsFour, f0, f1_f3, f4, IsUtf8, utf8_1, utf8_2, utf8_3, utf8_4, utf8}
 
 -- ---- Unicode scalar values: 0000-D7FF and E000-10FFFF
@@ -23,7 +23,7 @@ is_scalar_lem v (inr h) = or_right (ltb v 0xD800) _ (rw (le-leb 0xE000 v h.0, le
 pub scalar_range : (v : ℕ) → is_scalar v ≡ true → ScalarRange v
 scalar_range v t =
     ⊎_elim (λ u. inl (ltb-true v 0xD800 u)) (λ u. and_ways (leb 0xE000 v) (leb v 0x10FFFF) u (λ l m. inr (leb-true _ _ l, leb-true _ _ m)))
-    (or_true (ltb v 0xD800) _ t)
+    (or-true (ltb v 0xD800) _ t)
 
 -- ---- the first two bytes of three and of four
 

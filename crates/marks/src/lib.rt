@@ -1,4 +1,6 @@
 // What the first pass keeps of a text, and the rows that the second writes from it.
+#![tactic(auto)]
+
 mod filling;
 mod marks;
 mod names;

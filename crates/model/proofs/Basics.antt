@@ -16,28 +16,28 @@ pub T→true : (b : Bool) → T b → b ≡ true
 T→true true t = refl
 T→true false t = absurd t
 
-pub or_true : (x y : Bool) → x || y ≡ true → (x ≡ true) ⊎ (y ≡ true)
-or_true true y e = inl refl
-or_true false y e = inr e
+pub or-true : (x y : Bool) → x || y ≡ true → (x ≡ true) ⊎ (y ≡ true)
+or-true true y e = inl refl
+or-true false y e = inr e
 
-pub or_false : (x y : Bool) → x || y ≡ false → (x ≡ false) × (y ≡ false)
-or_false true y e = absurd (true≢false e)
-or_false false y e = (refl, e)
+pub or-false : (x y : Bool) → x || y ≡ false → (x ≡ false) × (y ≡ false)
+or-false true y e = absurd (true≢false e)
+or-false false y e = (refl, e)
 
-pub not_true : (x : Bool) → not x ≡ true → x ≡ false
-not_true true e = absurd (false≢true e)
-not_true false e = refl
+pub not-true : (x : Bool) → not x ≡ true → x ≡ false
+not-true true e = absurd (false≢true e)
+not-true false e = refl
 
-pub not_false : (x : Bool) → not x ≡ false → x ≡ true
-not_false true e = refl
-not_false false e = absurd (true≢false e)
+pub not-false : (x : Bool) → not x ≡ false → x ≡ true
+not-false true e = refl
+not-false false e = absurd (true≢false e)
 
 -- where code asks `!f(x)`: r is what f returned, b the test that it promises
 pub fails : {r b : Bool} → r ≡ b → not r ≡ true → b ≡ false
-fails {r} e h = sym e ∙ not_true r h
+fails {r} e h = sym e ∙ not-true r h
 
 pub passes : {r b : Bool} → r ≡ b → not r ≡ false → b ≡ true
-passes {r} e h = sym e ∙ not_false r h
+passes {r} e h = sym e ∙ not-false r h
 
 pub clash : {A : Type 0} (x : Bool) → x ≡ true → x ≡ false → A
 clash x p q = absurd (true≢false (sym p ∙ q))

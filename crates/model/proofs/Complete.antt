@@ -12,7 +12,7 @@ use Rattle.model.specs.Meeting.{IfArray, IfObject, meets_named, HasNames, Meets,
 use Rattle.model.specs.Carried.{NotCarried}
 use Rattle.model.specs.Subtype.{is, subtype_named, of_objects, other, under, requires, requires_all, subtype, subtype_fields}
 use Rattle.model.specs.Witness.{plain_value, apart, sample, kept, behind, avoiding, own_names, fresh, others, beyond_named, witness, witness_fields}
-use Rattle.model.proofs.Basics.{and_ways, not_true, not_false, clash, false_of, both}
+use Rattle.model.proofs.Basics.{and_ways, not-true, not-false, clash, false_of, both}
 use Rattle.model.proofs.Formed.{WellFormed, AreFields}
 use Rattle.model.proofs.Samples.{every, every_at, plain_meets, plain_json, kept_name, sample_meets, sample_json, member_json}
 use Rattle.model.proofs.Samples.{member_meets, fresh_text, fresh_under, other_formed, under_formed}
@@ -40,10 +40,10 @@ apart_meets s t =
 
 -- what no named type but JSON takes
 array_fails : (t : Named) → is t JSON ≡ false → meets_named t (array vnil) ≡ true → ⊥
-array_fails t e h = clash _ h (not_true _ (rw e at (every_at (λ t. is t JSON || not (meets_named t (array vnil))) refl t)))
+array_fails t e h = clash _ h (not-true _ (rw e at (every_at (λ t. is t JSON || not (meets_named t (array vnil))) refl t)))
 
 empty_fails : (t : Named) → is t JSON ≡ false → meets_named t (object mnil) ≡ true → ⊥
-empty_fails t e h = clash _ h (not_true _ (rw e at (every_at (λ t. is t JSON || not (meets_named t (object mnil))) refl t)))
+empty_fails t e h = clash _ h (not-true _ (rw e at (every_at (λ t. is t JSON || not (meets_named t (object mnil))) refl t)))
 
 -- an object whose first name is none of Array, Map and Object
 object_fails : (t : Named) → is t JSON ≡ false → (n : List ℕ) (w : Value) (ms : Members) → meets_named t (object (mcons (0x61 ∷ n) w ms)) ≡ true → ⊥
@@ -153,10 +153,10 @@ mutual
   fields_work fnil required a l k e b g v f = f (λ _. refl) refl
   fields_work (fcons n q fs) required a l k e b g v f = both (Works a b) (required && not (requires a n))
       (λ t. and_ways required (not (requires a n)) t
-      (λ x y. (sample_json a k, sample_meets a k, sample_lacks a e n (not_true (requires a n) y) b (λ ms m. ((g ms m).0 x).0))))
+      (λ x y. (sample_json a k, sample_meets a k, sample_lacks a e n (not-true (requires a n) y) b (λ ms m. ((g ms m).0 x).0))))
       (λ x. both (Works a b) (subtype (under a n) q)
       (λ z. fields_work fs required a l.3 k e b (λ ms m. (λ y. ((g ms m).0 y).1, (g ms m).1.1)) v
-      (λ y w. f (λ u. rw (not_false (requires a n) (rw u at x), y u) refl) (rw (z, w) refl)))
+      (λ y w. f (λ u. rw (not-false (requires a n) (rw u at x), y u) refl) (rw (z, w) refl)))
       (λ z.
       let w : Value = witness (under a n) q in
       let x = witness_works q (under a n) l.2 (under_formed a k n) z in (

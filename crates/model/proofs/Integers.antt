@@ -9,7 +9,7 @@ use lib.Dec.{leb, eqb}
 use borrow.Author.Tests.{eqb-true, ne_eqb, leb-true, le-leb}
 use Rattle.model.specs.Text.{text, all, same}
 use Rattle.model.specs.Value.{is_digit, is_digits, is_int, is_fraction, is_power, is_exponent, IsNumber, is_integer}
-use Rattle.model.proofs.Basics.{same_eq, or_true, and_ways, all_append, all_imp}
+use Rattle.model.proofs.Basics.{same_eq, or-true, and_ways, all_append, all_imp}
 
 -- an integer part passes a test that every digit passes
 pub int_all : (p : ℕ → Bool) → ((c : ℕ) → is_digit c ≡ true → p c ≡ true) → (s : List ℕ) → is_int s ≡ true → all p s ≡ true
@@ -19,7 +19,7 @@ int_all p digit (c ∷ s) h =
     (λ e. and_ways (leb 0x31 c && leb c 0x39) (all is_digit s) e
     (λ t u. and_ways (leb 0x31 c) (leb c 0x39) t
     (λ l m. let l = leb-true 0x31 c l in rw (digit c (rw (le-leb 0x30 c (omega arith), m))) (all_imp is_digit p digit s u))))
-    (or_true (same (c ∷ s) (text "0")) (leb 0x31 c && leb c 0x39 && all is_digit s) h)
+    (or-true (same (c ∷ s) (text "0")) (leb 0x31 c && leb c 0x39 && all is_digit s) h)
 
 -- a character of an integer
 abbrev whole : ℕ → Bool
@@ -45,7 +45,7 @@ exponent_none [] h k = refl
 exponent_none (c ∷ s) h k =
     and_ways (eqb c 0x45 || eqb c 0x65) (is_power s) h
     (λ t _. absurd (⊎_elim (λ e. false≢true (rw (eqb-true c 0x45 e) at k)) (λ e. false≢true (rw (eqb-true c 0x65 e) at k))
-    (or_true (eqb c 0x45) (eqb c 0x65) t)))
+    (or-true (eqb c 0x45) (eqb c 0x65) t)))
 
 by_parts : {s : List ℕ} (h : IsNumber s)
     → all whole s ≡ (all whole h.minus && (all whole h.int && (all whole h.fraction && all whole h.exponent)))

@@ -16,7 +16,7 @@ use Rattle.model.specs.Definition.{object-of, Fields, fnil, fcons, has_field, di
 use Rattle.model.specs.Meeting.{meets_named, HasNames, Meets, FieldsMeet}
 use Rattle.model.specs.Subtype.{field_or, of_objects, other, under}
 use Rattle.model.specs.Witness.{plain_value, sample, kept, following, behind, rarer, avoiding, names, own_names, fresh, others, with_member}
-use Rattle.model.proofs.Basics.{same_eq, same_of, same_refl, or_true, or_false, or_left, or_right, not_true, clash, false_of, both}
+use Rattle.model.proofs.Basics.{same_eq, same_of, same_refl, or-true, or-false, or_left, or_right, not-true, clash, false_of, both}
 use Rattle.model.proofs.Basics.{by_test}
 use Rattle.model.proofs.Formed.{WellFormed, AreFields}
 
@@ -73,7 +73,7 @@ pub kept_name : (p : List ℕ → Bool) (fs : Fields) (n : List ℕ) → has_nam
 kept_name p fnil n = λ h. h
 kept_name p (fcons m d fs) n =
     both (λ ms. has_name n ms ≡ true → same n m || has_field n fs ≡ true) (p m)
-    (λ e h. elim (or_true (same n m) (has_name n (kept p fs)) h) [
+    (λ e h. elim (or-true (same n m) (has_name n (kept p fs)) h) [
       | inl k ↦ or_left (same n m) (has_field n fs) k
       | inr k ↦ or_right (same n m) (has_field n fs) (kept_name p fs n k)
     ])
@@ -92,11 +92,11 @@ pub kept_has : (p : List ℕ → Bool) (fs : Fields) (n : List ℕ) → p n ≡ 
 kept_has p fnil n e h = h
 kept_has p (fcons m d fs) n e h =
     both (λ ms. has_name n ms ≡ true) (p m)
-    (λ k. elim (or_true (same n m) (has_field n fs) h) [
+    (λ k. elim (or-true (same n m) (has_field n fs) h) [
       | inl q ↦ or_left (same n m) (has_name n (kept p fs)) q
       | inr q ↦ or_right (same n m) (has_name n (kept p fs)) (kept_has p fs n e q)
     ])
-    (λ k. elim (or_true (same n m) (has_field n fs) h) [
+    (λ k. elim (or-true (same n m) (has_field n fs) h) [
       | inl q ↦ clash (p n) e (rw (same_eq n m q) k)
       | inr q ↦ kept_has p fs n e q
     ])
@@ -105,12 +105,12 @@ kept_has p (fcons m d fs) n e h =
 pub field_or_absent : (e : Def) (n : List ℕ) (fs : Fields) → has_field n fs ≡ false → field_or e n fs ≡ e
 field_or_absent e n fnil h = refl
 field_or_absent e n (fcons m d fs) h =
-    let k = or_false (same n m) (has_field n fs) h in
+    let k = or-false (same n m) (has_field n fs) h in
     rw k.0 (field_or_absent e n fs k.1)
 
 pub field_or_present : (e e' : Def) (n : List ℕ) (fs : Fields) → has_field n fs ≡ true → field_or e n fs ≡ field_or e' n fs
 field_or_present e e' n fnil h = absurd (false≢true h)
-field_or_present e e' n (fcons m d fs) h = elim (or_true (same n m) (has_field n fs) h) [
+field_or_present e e' n (fcons m d fs) h = elim (or-true (same n m) (has_field n fs) h) [
   | inl k ↦ rw k refl
   | inr k ↦ rw (field_or_present e e' n fs k) refl
 ]
@@ -124,7 +124,7 @@ disjoint_at r fnil h n k = refl
 disjoint_at r (fcons m d fs) h n k =
     let j = (and-eq-true_iff (not (has_field m r)) (disjoint r fs)).0 h in
     by_test (same n m)
-    (λ q. clash (has_field n r) k (rw (same_eq n m q) (not_true (has_field m r) j.0)))
+    (λ q. clash (has_field n r) k (rw (same_eq n m q) (not-true (has_field m r) j.0)))
     (λ q. rw q (disjoint_at r fs j.1 n k))
 
 -- ---- members that have the names and hold what is asked meet the fields
@@ -292,7 +292,7 @@ fresh_none a =
 fresh_absent : (r o : Fields) → (has_field (fresh (object-of r o)) r ≡ false) × (has_field (fresh (object-of r o)) o ≡ false)
 fresh_absent r o =
     let n : List ℕ = fresh (object-of r o) in
-    let h = or_false (is_one n (names r)) (is_one n (names o)) (sym (one_append n (names r) (names o)) ∙ fresh_none (object-of r o)) in
+    let h = or-false (is_one n (names r)) (is_one n (names o)) (sym (one_append n (names r) (names o)) ∙ fresh_none (object-of r o)) in
     (one_field n r ∙ h.0, one_field n o ∙ h.1)
 
 pub fresh_under : (a : Def) → under a (fresh a) ≡ other a
@@ -308,7 +308,7 @@ fresh_under (object-of r o) =
 kept_all : (n : List ℕ) (fs : Fields) → has_field n fs ≡ false → kept (λ m. not (same n m)) fs ≡ kept (λ m. true) fs
 kept_all n fnil h = refl
 kept_all n (fcons m d fs) h =
-    let k = or_false (same n m) (has_field n fs) h in
+    let k = or-false (same n m) (has_field n fs) h in
     rw k.0 (ap (mcons m (sample d)) (kept_all n fs k.1))
 
 -- beside the fresh name stand all required members

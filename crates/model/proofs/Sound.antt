@@ -11,7 +11,7 @@ use Rattle.model.specs.Definition.{Named, Named-discrete, JSON, Float, Integer, 
 use Rattle.model.specs.Definition.{object-of, Fields, fnil, fcons, has_field}
 use Rattle.model.specs.Meeting.{IfArray, IfObject, HasNames, Meets, FieldsMeet, if_number, if_string}
 use Rattle.model.specs.Subtype.{is_yes, is, subtype_named, field_or, of_objects, other, under, requires, requires_all, subtype, subtype_fields}
-use Rattle.model.proofs.Basics.{same_eq, or_true, both}
+use Rattle.model.proofs.Basics.{same_eq, or-true, both}
 
 -- every value that meets a meets b
 abbrev pub Within : Def → Def → Type 0
@@ -47,9 +47,9 @@ string_of p (array vs) h = h
 string_of p (object ms) h = h
 
 sound_named : (s t : Named) → subtype_named s t ≡ true → Within (named s) (named t)
-sound_named s t e v h = elim (or_true (is t JSON || is s t || (is s Integer && is t Float)) (is s DateTime && is t String) e) [
-  | inl e₁ ↦ elim (or_true (is t JSON || is s t) (is s Integer && is t Float) e₁) [
-    | inl e₂ ↦ elim (or_true (is t JSON) (is s t) e₂) [
+sound_named s t e v h = elim (or-true (is t JSON || is s t || (is s Integer && is t Float)) (is s DateTime && is t String) e) [
+  | inl e₁ ↦ elim (or-true (is t JSON || is s t) (is s Integer && is t Float) e₁) [
+    | inl e₂ ↦ elim (or-true (is t JSON) (is s t) e₂) [
       | inl e₃ ↦ rw (is_eq t JSON e₃) refl
       | inr e₃ ↦ rw (is_eq s t e₃) at h
     ]
@@ -116,7 +116,7 @@ other_meets (object-of r o) e ms h n w u = refl
 
 names_at : (fs : Fields) (ms : Members) → HasNames fs ms → (n : List ℕ) → has_field n fs ≡ true → has_name n ms ≡ true
 names_at fnil ms h n e = absurd (false≢true e)
-names_at (fcons m d fs) ms h n e = elim (or_true (same n m) (has_field n fs) e) [
+names_at (fcons m d fs) ms h n e = elim (or-true (same n m) (has_field n fs) e) [
   | inl p ↦ rw (same_eq n m p) h.0
   | inr p ↦ names_at fs ms h.1 n p
 ]

@@ -1,4 +1,6 @@
 // Read (01, "Three services"): the first pass judges a text, the second writes its rows.
+#![tactic(auto)]
+
 mod reading;
 mod scanning;
 

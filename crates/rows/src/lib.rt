@@ -1,4 +1,6 @@
 // Rows of a table (01, "Rows"): reading one, finding a member by its name, and many members at once.
+#![tactic(auto)]
+
 mod finding;
 mod matching;
 mod records;

@@ -1,4 +1,6 @@
 // Values that meet a definition, written out: what a counterexample (02, L1) is made of.
+#![tactic(auto)]
+
 mod fresh;
 mod pieces;
 mod values;

@@ -5,7 +5,7 @@ use mathlib.Core.Bool.{false}
 use Prim.Native.Nat.{ℕ, ◌+◌, ◌-◌}
 use Rattle.model.specs.Text.{same}
 use Rattle.model.specs.Value.{has_name, IsJson, AreJson, AreMembers}
-use Rattle.model.proofs.Basics.{or_false}
+use Rattle.model.proofs.Basics.{or-false}
 use Rattle.tokens.specs.Parse.{parsed}
 use Rattle.chars.specs.Strings.{part}
 use Rattle.tokens.specs.Tokens.{Kind, Null, False, True, Whole, Fractional, Quoted}
@@ -35,14 +35,14 @@ module _ (s : List ℕ) where
         → has_name m (members_of s (add_member ms f e n)) ≡ false
     still_new m no_member h d = rw d
     still_new m (member g i v ms) h d =
-        let x = or_false (same m (name_of s g i)) (has_name m (members_of s ms)) h in rw x.0 (still_new m ms x.1 d)
+        let x = or-false (same m (name_of s g i)) (has_name m (members_of s ms)) h in rw x.0 (still_new m ms x.1 d)
 
     members_json : (ms : Members) → repeated s ms (name_of s f e) ≡ false → AreMembers (members_of s ms) → IsJson (value_of s n)
         → AreMembers (members_of s (add_member ms f e n))
     unfolding repeated
     members_json no_member d h j = (characters_text (part s (f + 1) (e - 1)), refl, j, tt)
     members_json (member g i v ms) d h j =
-        let x = or_false (same (name_of s g i) (name_of s f e)) (repeated s ms (name_of s f e)) d in
+        let x = or-false (same (name_of s g i) (name_of s f e)) (repeated s ms (name_of s f e)) d in
         (h.0, still_new (name_of s g i) ms h.1 x.0, h.2, members_json ms x.1 h.3 j)
 
   spelling : Rule s (λ n. IsJson (value_of s n)) (λ ns. AreJson (values_of s ns)) (λ ms. AreMembers (members_of s ms))

@@ -1,4 +1,6 @@
 // The grammar, its rows and answers (01, "Text", "Rows", "Three services"): what Read and everything above it speak of.
+#![tactic(auto)]
+
 mod answers;
 mod limits;
 mod rows;

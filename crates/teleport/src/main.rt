@@ -1,6 +1,8 @@
 // The program of 01 ("The program"): a command and its files as arguments, and one line as the
 // answer. Each command is a function that loads all its files before its service begins, so that
 // `no file` stands before any code.
+#![tactic(auto)]
+
 use console::{Loaded, answer, asks, load, no_file};
 use schema::PATH_WORDS;
 

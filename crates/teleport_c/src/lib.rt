@@ -1,4 +1,6 @@
 // The library for callers in other languages: a slice is a pointer and a length.
+#![tactic(auto)]
+
 ghost use Rattle.std.specs.Prelude.{◌≡◌, ◌↔◌, [], ◌∷◌, ◌≤◌, length};
 ghost use Rattle.syntax.specs.Answer.{document_limits, read_within, answer_of, table_of};
 ghost use Rattle.definitions.specs.Accepting.{read_schema};

@@ -1,5 +1,7 @@
 // The second program: the services of 02, a command for each. All files that are read are loaded before a command begins, which
 // prints the answer and writes its file; where a file cannot be read, or the arguments are others, the line is `no file`.
+#![tactic(auto)]
+
 use console::{Loaded, asks, load, no_file};
 
 // One byte over the limit of a document (65,536), so that a longer file gives the service a text over it.

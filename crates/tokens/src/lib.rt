@@ -1,4 +1,6 @@
 // What stands between the brackets of a text: space, and the values that hold no other (numbers, strings and literals).
+#![tactic(auto)]
+
 mod numbers;
 mod scalars;
 mod space;

@@ -15,6 +15,8 @@
 //
 // An empty line, or one that starts with `#`, is written back as it is. Any other line that is not
 // of this form gives `bad line` for its answer.
+#![tactic(auto)]
+
 mod commands;
 mod fields;
 mod lines;

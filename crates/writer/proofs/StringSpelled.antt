@@ -8,7 +8,7 @@ use native.Mathlib.Omega.{arith}
 use lib.Dec.{ltb, eqb}
 use borrow.Author.Tests.{ltb-true, ltb-false, eqb-true, eqb-false}
 use Rattle.model.specs.Text.{is_scalar, is_text}
-use Rattle.model.proofs.Basics.{both, by_test, and_ways, or_true, or_false}
+use Rattle.model.proofs.Basics.{both, by_test, and_ways, or-true, or-false}
 use Rattle.grammar.specs.Written.{IsUnescaped, IsShort, quotation_mark, reverse_solidus, backspace, form_feed, line_feed, carriage_return, tab}
 use Rattle.grammar.specs.Written.{IsHexDigit, decimal, lower, hex, IsChar, unescaped, short, unicode, IsChars, no_char, char, IsString}
 use Rattle.grammar.proofs.Facts.{scalar_range, utf8_spelled}
@@ -40,8 +40,8 @@ letterless : (c : ℕ) → is_escaped c ≡ true → letter_of c ≡ 0 → c < 0
 unfolding letter_of
 letterless c t z =
     ⊎_elim
-    (λ u. ⊎_elim (λ l. ltb-true c 0x20 l) (λ e. let z : ◌≡◌ {A = ℕ} 0x22 0 = rw (eqb-true c 0x22 e) at z in omega arith) (or_true (ltb c 0x20) (eqb c 0x22) u))
-    (λ e. let z : ◌≡◌ {A = ℕ} 0x5C 0 = rw (eqb-true c 0x5C e) at z in omega arith) (or_true (ltb c 0x20 || eqb c 0x22) (eqb c 0x5C) t)
+    (λ u. ⊎_elim (λ l. ltb-true c 0x20 l) (λ e. let z : ◌≡◌ {A = ℕ} 0x22 0 = rw (eqb-true c 0x22 e) at z in omega arith) (or-true (ltb c 0x20) (eqb c 0x22) u))
+    (λ e. let z : ◌≡◌ {A = ℕ} 0x5C 0 = rw (eqb-true c 0x5C e) at z in omega arith) (or-true (ltb c 0x20 || eqb c 0x22) (eqb c 0x5C) t)
 
 digit_spelled : (n : ℕ) → n < 16 → IsHexDigit (hex_digit n) n
 unfolding hex_digit
@@ -68,8 +68,8 @@ escape_spelled c t =
 -- one that is not escaped
 plain : (c : ℕ) → is_scalar c ≡ true → is_escaped c ≡ false → IsUnescaped c
 plain c h t =
-    let r = or_false (ltb c 0x20 || eqb c 0x22) (eqb c 0x5C) t in
-    let l = or_false (ltb c 0x20) (eqb c 0x22) r.0 in
+    let r = or-false (ltb c 0x20 || eqb c 0x22) (eqb c 0x5C) t in
+    let l = or-false (ltb c 0x20) (eqb c 0x22) r.0 in
     let low = ltb-false c 0x20 l.0 in
     let quote = eqb-false c 0x22 l.1 in
     let back = eqb-false c 0x5C r.1 in

@@ -7,7 +7,7 @@ use native.Mathlib.Omega.{arith}
 use lib.ListN.{length}
 use lib.Dec.{eqb}
 use borrow.Author.Tests.{eqb-true, eqb-false}
-use Rattle.model.proofs.Basics.{by_test, clash, or_false}
+use Rattle.model.proofs.Basics.{by_test, clash, or-false}
 use Rattle.chars.specs.Bytes.{byte_at}
 use Rattle.tokens.specs.Space.{is_space, skip}
 use Rattle.chars.specs.Strings.{part}
@@ -54,13 +54,13 @@ module _ {s : List ℕ} where
   tokens_space (ended {i} h) t = ended {i = i + 1} (omega arith)
   tokens_space (space h u k) t = k
   tokens_space (quoted q k) t = clash _ t (quote_no_space q.opens)
-  tokens_space (copied h n k) t = clash _ t (or_false _ _ n).0
+  tokens_space (copied h n k) t = clash _ t (or-false _ _ n).0
 
   pub tokens_skip : {i : ℕ} {w : List ℕ} → Tokens s i w → Tokens s (skip s i) w
   tokens_skip (ended {i} h) = rw (run_end is_space s i h) (ended h)
   tokens_skip (space {i} h t k) = rw (run_next is_space s i h t) (tokens_skip k)
   tokens_skip (quoted {i} q k) = rw (run_stop is_space s i (quote_no_space q.opens)) (quoted q k)
-  tokens_skip (copied {i} h n k) = rw (run_stop is_space s i (or_false _ _ n).0) (copied h n k)
+  tokens_skip (copied {i} h n k) = rw (run_stop is_space s i (or-false _ _ n).0) (copied h n k)
 
   pub tokens_string : {i : ℕ} {w : List ℕ} → Tokens s i w → byte_at s i ≡ 0x22 → StringAt s i w
   tokens_string (ended {i} h) o = absurd (omega (arith, in_text s i (omega arith)))
@@ -68,7 +68,7 @@ module _ {s : List ℕ} where
   tokens_string (quoted {i} {e} {w} q k) o =
       let z = string-end q in
       record { rest = w; splits = refl; is_quoted = subst (IsQuoted s i) z q; tokens = subst (λ (j : ℕ). Tokens s j w) z k }
-  tokens_string (copied {i} h n k) o = absurd (eqb-false _ _ (or_false (is_space (byte_at s i)) _ n).1 o)
+  tokens_string (copied {i} h n k) o = absurd (eqb-false _ _ (or-false (is_space (byte_at s i)) _ n).1 o)
 
   pub tokens_byte : {i : ℕ} {w : List ℕ} → Tokens s i w → i < length s → is_space (byte_at s i) ≡ false → (byte_at s i ≡ 0x22 → ⊥)
       → (rest : List ℕ) × (w ≡ byte_at s i ∷ rest) × Tokens s (i + 1) rest
@@ -138,6 +138,6 @@ module _ {s : List ℕ} where
       let r = tokens_string b q.opens in
       ap (λ (x : List ℕ). string_bytes s i ++ x) (tokens_one k (subst (λ (j : ℕ). Tokens s j r.rest) (sym (string-end q)) r.tokens)) ∙ sym r.splits
   tokens_one (copied {i} h n k) b =
-      let o = or_false _ _ n in
+      let o = or-false _ _ n in
       let r = tokens_byte b h o.0 (eqb-false _ _ o.1) in
       ap (◌∷◌ (byte_at s i)) (tokens_one k r.2) ∙ sym r.1

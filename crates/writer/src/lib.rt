@@ -1,4 +1,6 @@
 // Compact (02, L6): one spelling for a file.
+#![tactic(auto)]
+
 mod characters;
 mod compacting;
 mod pieces;

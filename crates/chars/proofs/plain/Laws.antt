@@ -6,7 +6,7 @@ use Prim.Native.Nat.{ℕ, zero, suc, ◌+◌, ◌-◌, ◌≤◌, ◌<◌}
 use native.Mathlib.Omega.{arith}
 use lib.ListN.{length}
 use lib.Dec.{leb, ltb, eqb}
-use borrow.Author.Tests.{leb-true, ltb-true, eqb-false, le-leb, lt-ltb, ne_eqb, not_true}
+use borrow.Author.Tests.{leb-true, ltb-true, eqb-false, le-leb, lt-ltb, ne_eqb, not-true}
 use Rattle.chars.specs.declared.characters.Step.TheVariants.{Char, Quote}
 use Rattle.chars.specs.Bytes.{byte_at}
 use Rattle.chars.specs.Runs.{run_from, run}
@@ -25,7 +25,7 @@ from_plain s i b t =
     and_ways (leb 0x20 b && ltb b 0x80 && not (eqb b 0x22)) (not (eqb b 0x5C)) t
     (λ u r. and_ways (leb 0x20 b && ltb b 0x80) (not (eqb b 0x22)) u
     (λ v q. and_ways (leb 0x20 b) (ltb b 0x80) v
-    (λ lo hi. from_ascii s i (leb-true 0x20 b lo) (ltb-true b 0x80 hi) (eqb-false b 0x22 (not_true _ q)) (eqb-false b 0x5C (not_true _ r)))))
+    (λ lo hi. from_ascii s i (leb-true 0x20 b lo) (ltb-true b 0x80 hi) (eqb-false b 0x22 (not-true _ q)) (eqb-false b 0x5C (not-true _ r)))))
 
 pub is_plain_of : {b : ℕ} → 0x20 ≤ b → b < 0x80 → (b ≡ 0x22 → ⊥) → (b ≡ 0x5C → ⊥) → is_plain b ≡ true
 unfolding is_plain

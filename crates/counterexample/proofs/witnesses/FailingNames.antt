@@ -8,7 +8,7 @@ use native.Mathlib.Omega.{arith}
 use lib.ListN.{length}
 use mir.Syntax.{w64}
 use mir.Val.{Fits}
-use borrow.Author.Tests.{not_true, not_false}
+use borrow.Author.Tests.{not-true, not-false}
 use Rattle.model.specs.Text.{text}
 use Rattle.model.specs.Definition.{JSON, Def, named, array_of, map_of, object-of}
 use Rattle.model.specs.Subtype.{subtype, under, requires}
@@ -131,7 +131,7 @@ module _ {s₁ s₂ t₁ t₂ : List ℕ} {r₁ r₂ : ℕ} (i : PairingTo s₁ 
   body_fits b = record { fits = omega (arith, (in_table (as_row (object_row i))).here) }
 
   pub name_other : {b : Bool} → OfObjectsRow s₁ t₁ r₁ b → not b ≡ true → FailingName s₁ s₂ t₁ t₂ r₁ r₂ 0
-  name_other {b} h n = record { tells = λ p. rw (old_object p).is (rw (sym (h.tells p.new) ∙ not_true b n) refl) }
+  name_other {b} h n = record { tells = λ p. rw (old_object p).is (rw (sym (h.tells p.new) ∙ not-true b n) refl) }
 
   -- the row of "optional"
   module _ {u : ℕ} (g : Finds s₂ t₂ (r₂ + 2) (characters (text "optional")) u) where
@@ -167,7 +167,7 @@ module _ {s₁ s₂ t₁ t₂ : List ℕ} {r₁ r₂ : ℕ} (i : PairingTo s₁ 
 
         both : (p : Pairing s₁ s₂ t₁ t₂ r₁ r₂)
             → failing_of (bare p.new.definition) (first p) (second p) ≡ failing (bare p.new.definition) (bare p.old.definition)
-        both p = rw (old_object p).is (rw (sym (h.tells p.new) ∙ not_false b n) refl)
+        both p = rw (old_object p).is (rw (sym (h.tells p.new) ∙ not-false b n) refl)
 
         first_fails : (p : Pairing s₁ s₂ t₁ t₂ r₁ r₂) → Fails s₂ t₂ r₂ w (first p)
         first_fails p =

@@ -9,11 +9,11 @@ use native.Mathlib.Omega.{arith}
 use lib.ListN.{length, drop}
 use lib.Seq.{drop-drop}
 use lib.Dec.{leb, eqb}
-use borrow.Author.Tests.{le-leb, lt-leb, eq-eqb, ne_eqb, eqb-true, not_true, not_false}
+use borrow.Author.Tests.{le-leb, lt-leb, eq-eqb, ne_eqb, eqb-true, not-true, not-false}
 use Rattle.model.specs.Text.{same}
 use Rattle.model.specs.Value.{is_digit}
 use Rattle.model.specs.Date.{at, minutes, is_clock, is_offset, is_zone, after_digits, offset}
-use Rattle.model.proofs.Basics.{and_ways, by_test, clash, or_true, or_false as neither}
+use Rattle.model.proofs.Basics.{and_ways, by_test, clash, or-true, or-false as neither}
 use Rattle.model.proofs.DateFields.{digit_range, offset_less}
 use Rattle.chars.proofs.Facts.{in_text}
 use Rattle.chars.specs.Strings.{chars_at}
@@ -68,10 +68,10 @@ module _ (s : List ℕ) (i c : ℕ) (a : Found) (t : Mark s i c a) where
       judged = rw (sign.0, time.0) (eqb_leb (length (chars_at s i)) 6 (clock_long (chars_at s i) time.0) ∙ sym (e (chars_at s i) 6 time.2))
 
       pub more_behind : not r ≡ true → 1440 ≡ offset_read c (chars_at s i)
-      more_behind f = rw (judged ∙ not_true r f)
+      more_behind f = rw (judged ∙ not-true r f)
 
       pub offset-read : not r ≡ false → m ≡ offset_read c (chars_at s i)
-      offset-read f = rw (judged ∙ not_false r f) time.1
+      offset-read f = rw (judged ∙ not-false r f) time.1
 
 -- ---- zones
 
@@ -81,7 +81,7 @@ letter_sign c x k h =
     ⊎_elim
     (λ t. rw (eqb-true x 0x5A t) (ne_eqb 0x5A c (λ e. omega arith)))
     (λ t. rw (eqb-true x 0x7A t) (ne_eqb 0x7A c (λ e. omega arith)))
-    (or_true (eqb x 0x5A) (eqb x 0x7A) h)
+    (or-true (eqb x 0x5A) (eqb x 0x7A) h)
 
 -- behind it stands nothing
 zone_letter : (l : List ℕ) → eqb (at l 0) 0x5A || eqb (at l 0) 0x7A ≡ true → is_zone l ≡ leb (length l) 1

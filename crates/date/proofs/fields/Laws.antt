@@ -5,7 +5,7 @@ use mathlib.Core.Bool.{Bool, true, false, not, ◌&&◌}
 use Prim.Native.Nat.{ℕ, ◌+◌, ◌*◌, ◌≤◌, ◌<◌}
 use native.Mathlib.Omega.{arith}
 use lib.Dec.{eqb}
-use borrow.Author.Tests.{le-leb, lt-leb, not_true, not_false}
+use borrow.Author.Tests.{le-leb, lt-leb, not-true, not-false}
 use Rattle.model.specs.Calendar.{on, in_calendar}
 use Rattle.model.specs.Date.{at, two_digits, two, is_clock, is_day}
 use Rattle.chars.specs.Strings.{characters}
@@ -80,7 +80,7 @@ module _ (s : List ℕ) (a : Number) (t : Four s 0 a) where
         judged = rw (year.0, month.0, day.0, ← year.1, ← month.1, ← day.1) (sym g)
 
         pub off_calendar : not r ≡ true → is_day (characters s) ≡ false
-        off_calendar f = judged ∙ not_true r f
+        off_calendar f = judged ∙ not-true r f
 
         pub day_read : not r ≡ false → DayTold s (On y m n k)
-        day_read f = (judged ∙ not_false r f, rw (year.1, month.1, day.1), day.2)
+        day_read f = (judged ∙ not-false r f, rw (year.1, month.1, day.1), day.2)

@@ -9,7 +9,7 @@ use lib.Signed.{mag}
 use mir.Syntax.{Width, w64}
 use mir.Val.{SFits, to_z, of_z, hbits}
 use mir.ValLaws.{to_z-of_z}
-use borrow.Author.Tests.{not_true, not_false}
+use borrow.Author.Tests.{not-true, not-false}
 use Rattle.model.specs.Calendar.{on, in_calendar, day_count}
 use Rattle.model.specs.Date.{has_second}
 use Rattle.model.proofs.Basics.{both}
@@ -43,11 +43,11 @@ module _ (y m d : ℕ) (h : in_calendar (on y m d) ≡ true) where
   -- the second k of the moved time n, of which r tells whether its minute has it
   module _ (n k : ℕ) (r : Bool) (told : (year : ℕ) → in_calendar (on year m d) ≡ true → r ≡ has_second k (on year m d) n) where
     pub bad_second : not r ≡ true → NoDate ≡ moment_at (on y m d) n k
-    bad_second f = rw (sym (told y h) ∙ not_true r f)
+    bad_second f = rw (sym (told y h) ∙ not-true r f)
 
     module _ (f : not r ≡ false) (short : n < 4319) where
       has : has_second k (on y m d) n ≡ true
-      has = sym (told y h) ∙ not_false r f
+      has = sym (told y h) ∙ not-false r f
 
       pub second_small : k ≤ 60
       second_small = has_most (on y m d) n k has

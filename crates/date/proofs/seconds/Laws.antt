@@ -1,7 +1,7 @@
 -- The seconds of a minute, on plain values: what is told of them by the tests of the day and of the moved time.
 use mathlib.Core.Path.{◌≡◌, sym, ◌∙◌}
 use mathlib.Core.Logic.{◌⊎◌, inl, inr}
-use mathlib.Core.Bool.{Bool, true, false, or_false}
+use mathlib.Core.Bool.{Bool, true, false, or-false}
 use Prim.Native.Nat.{ℕ, ◌≤◌, ◌<◌}
 use native.Mathlib.Omega.{arith}
 use lib.Dec.{eqb}
@@ -15,7 +15,7 @@ use Rattle.model.proofs.LeapSeconds.{leaps, on_eve, on_day, off_minute, has_59, 
 
 module _ (m d : ℕ) where
   pub june : m ≡ 6 → (y : ℕ) → eqb d 30 ≡ ends_half (on y m d)
-  june e y = rw (e, or_false)
+  june e y = rw (e, or-false)
 
   pub december : m ≡ 12 → (y : ℕ) → eqb d 31 ≡ ends_half (on y m d)
   december e y = rw e

@@ -7,7 +7,7 @@ use mathlib.Core.Option.{Option, none, some}
 use mathlib.Core.List.{List}
 use Rattle.model.specs.Text.{same}
 use Rattle.model.specs.Value.{Value, Members as ValueMembers, mnil, mcons, Under, has_name, IsJson, AreMembers}
-use Rattle.model.proofs.Basics.{both, same_eq, same_of, or_false, or_left, or_right, clash}
+use Rattle.model.proofs.Basics.{both, same_eq, same_of, or-false, or_left, or_right, clash}
 use Rattle.syntax.specs.Tree.{Node, Members, no_member, member}
 use Rattle.syntax.specs.Grammar.{name_of}
 use Rattle.syntax.specs.Spelling.{value_of, members_of}
@@ -18,7 +18,7 @@ use Rattle.rows.specs.Finding.{lookup}
 pub not_under : (k : List ℕ) (w : Value) (ms : ValueMembers) → has_name k ms ≡ false → Under k w ms → ⊥
 not_under k w mnil h u = u
 not_under k w (mcons m v ms) h u =
-    let x = or_false (same k m) (has_name k ms) h in
+    let x = or-false (same k m) (has_name k ms) h in
     elim u [ inl q ↦ clash (same k m) (same_of k m q.0) x.0 | inr r ↦ not_under k w ms x.1 r ]
 
 module _ (s : List ℕ) where

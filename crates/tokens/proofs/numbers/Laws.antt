@@ -2,7 +2,7 @@
 use mathlib.Core.Path.{◌≡◌, ap, ◌∙◌}
 use mathlib.Core.Logic.{◌⊎◌, inl, inr}
 use mathlib.Core.List.{List, [], ◌∷◌}
-use mathlib.Core.Bool.{Bool, true, false, not, ◌||◌, or_assoc, or_true, and-false}
+use mathlib.Core.Bool.{Bool, true, false, not, ◌||◌, or_assoc, or-true, and-false}
 use Prim.Native.Nat.{ℕ, ◌+◌, ◌≤◌, ◌<◌}
 use native.Mathlib.Omega.{arith}
 use lib.ListN.{length}
@@ -80,7 +80,7 @@ dot_plain : (c : ℕ) → eqb c 0x2E ≡ true → in_integer c ≡ false
 dot_plain c t = rw t
 
 letter_plain : (c : ℕ) → eqb c 0x45 || eqb c 0x65 ≡ true → in_integer c ≡ false
-letter_plain c t = rw (or_assoc, t, or_true)
+letter_plain c t = rw (or_assoc, t, or-true)
 
 -- a sign or nothing
 abbrev pub Minus : List ℕ → Type 0
@@ -112,7 +112,7 @@ module _ (s : List ℕ) where
   power_piece j =
       both (λ p. (digits_end s p ≡ p → ⊥) → is_power (part s j (digits_end s p)) ≡ true) (eqb (byte_at s j) 0x2B || eqb (byte_at s j) 0x2D)
       (λ t n. let r = run_some is_digit s (j + 1) n in
-      rw (part_cons s j (digits_end s (j + 1)) (omega arith) (omega arith), t, digits_piece (j + 1) n, or_true))
+      rw (part_cons s j (digits_end s (j + 1)) (omega arith) (omega arith), t, digits_piece (j + 1) n, or-true))
       (λ _ n. digits_power (part s j (digits_end s j)) (digits_piece j n))
 
   pub whole_piece : (j : ℕ) → (whole_end s j ≡ j → ⊥) → (is_int (part s j (whole_end s j)) ≡ true) × (all is_digit (part s j (whole_end s j)) ≡ true)

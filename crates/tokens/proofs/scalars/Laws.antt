@@ -1,7 +1,7 @@
 -- Values that hold no other: what their first byte says, where they end, and how they are spelled.
 use mathlib.Core.Path.{◌≡◌, refl, sym, ◌∙◌, subst}
 use mathlib.Core.List.{List, [], ◌∷◌}
-use mathlib.Core.Bool.{true, false, cond, ◌||◌, ◌&&◌, or_true}
+use mathlib.Core.Bool.{true, false, cond, ◌||◌, ◌&&◌, or-true}
 use mathlib.Core.Logic.{◌⊎◌, inl, inr}
 use Prim.Native.Nat.{ℕ, ◌+◌, ◌-◌, ◌≤◌, ◌<◌}
 use native.Mathlib.Decide.{dec_lt}
@@ -11,7 +11,7 @@ use lib.Dec.{eqb, leb, ltb}
 use borrow.Author.Tests.{eq-eqb, eqb-true, leb-true, ltb-true, lt-ltb, lt-leb, le-leb, ne_eqb}
 use Rattle.model.specs.Text.{text, all, is_scalar, is_text}
 use Rattle.model.specs.Value.{is_digit}
-use Rattle.model.proofs.Basics.{or_false, both, and_ways}
+use Rattle.model.proofs.Basics.{or-false, both, and_ways}
 use Rattle.chars.specs.declared.strings.Scan.{Scan}
 use Rattle.chars.specs.declared.strings.Scan.TheVariants.{Ends, Stopped}
 use Rattle.tokens.specs.declared.scalars.First.{First}
@@ -168,7 +168,7 @@ scalar_test v h = go (dec_lt v 0xD800)
   where
     go : Dec (v < 0xD800) → is_scalar v ≡ true
     go (yes l) = rw (lt-ltb v 0xD800 l)
-    go (no n) = rw (le-leb 0xE000 v (h.1 (omega arith)), le-leb v 0x10FFFF h.0, or_true)
+    go (no n) = rw (le-leb 0xE000 v (h.1 (omega arith)), le-leb v 0x10FFFF h.0, or-true)
 
 scalars_text : (t : List ℕ) → Scalars t → is_text t ≡ true
 scalars_text [] h = refl
@@ -231,7 +231,7 @@ module _ (s : List ℕ) (i f : ℕ) where
     digits_read : goes_on (byte_at s ending) ≡ false → unsigned_at s f ≡ parsed Whole ending
     unfolding goes_on unsigned_at whole_end fraction_at exponent_at
     digits_read g =
-        let x = or_false (eqb (byte_at s ending) 0x2E) (eqb (byte_at s ending) 0x45 || eqb (byte_at s ending) 0x65) g in
+        let x = or-false (eqb (byte_at s ending) 0x2E) (eqb (byte_at s ending) 0x45 || eqb (byte_at s ending) 0x65) g in
         rw (ne_eqb (byte_at s f) 0x30 (λ q. omega arith), all_digits, ne_eqb ending f (λ q. omega (arith, begins_on)), x.0, x.1)
 
   -- where they begin, they are read so

@@ -5,7 +5,7 @@ use mathlib.Core.Path.{refl}
 use mathlib.Core.List.{List}
 use native.Mathlib.Omega.{arith}
 use borrow.Author.Rules.{rules}
-use borrow.Author.Tests.{not_true, not_false}
+use borrow.Author.Tests.{not-true, not-false}
 use Rattle.syntax.specs.Holding.{word}
 use Rattle.definitions.specs.declared.types.Generic.TheVariants.{Array, Map, Object, Other}
 use Rattle.definitions.proofs.Facts.{part_rows, fields_in_lem, find_required, find_optional}
@@ -318,7 +318,7 @@ module _ {k : carried-to-object-lts.Claims} {P : In 4 carried-to-object-kinds.ps
 carried-to-object-met : {M : Type 1} (t : ℕ) → carried-to-object-lts.Closed (carried-to-object-claims t) (carried-to-object-at t) carried-to-object.Post M
 carried-to-object-met t = carried-to-object-lts.spec (carried-to-object-claims t) (carried-to-object-at t) carried-to-object.Post
     (λ c κs. search rules)  -- of-objects-requires
-    (λ c. object_other (object-entry c.before).pre.1 c.before.of-objects.ensures (not_true _ c.if1.true))  -- returns
+    (λ c. object_other (object-entry c.before).pre.1 c.before.of-objects.ensures (not-true _ c.if1.true))  -- returns
     (λ c. omega (arith, (object_in (object-entry c.before).pre.1).here))  -- add-find
     (λ c. search rules)  -- slice-aggregate-find
     (λ c κs. object_row (object-entry c.before.before).pre.1)  -- find-requires
@@ -331,7 +331,7 @@ carried-to-object-met t = carried-to-object-lts.spec (carried-to-object-claims t
     (λ c.
     let f = c.before.before in
     let e = f.before.before in
-    object_fails (object-found f).requires.1 e.before.of-objects.ensures (not_false _ e.if1.false) (find_required f.find.ensures)
+    object_fails (object-found f).requires.1 e.before.of-objects.ensures (not-false _ e.if1.false) (find_required f.find.ensures)
     c.before.failing-field.ensures c.if2.true)
     (λ c. omega (arith, (object_in (object-found c.before.before).pre.1).here))  -- add-find-2
     (λ c. search rules)  -- slice-aggregate-find-2
@@ -346,7 +346,7 @@ carried-to-object-met t = carried-to-object-lts.spec (carried-to-object-claims t
     let k = c.before.before.before in
     let f = k.before.before in
     let e = f.before.before in
-    object_ends (object-found f).requires.1 e.before.of-objects.ensures (not_false _ e.if1.false) (find_required f.find.ensures)
+    object_ends (object-found f).requires.1 e.before.of-objects.ensures (not-false _ e.if1.false) (find_required f.find.ensures)
     k.before.failing-field.ensures k.if2.false (find_optional c.before.find2.ensures) c.failing-field2.ensures)
 
 -- ---- failing_field
@@ -398,7 +398,7 @@ failing-field-met t = failing-field-lts.spec (failing-field-claims t) (failing-f
     -- returns-3
     (λ c.
     let p = c.before.before in
-    field_fails p.before.loop.invariant p.loop-test.true c.before.carried-field.ensures (not_true _ c.if3.true))
+    field_fails p.before.loop.invariant p.loop-test.true c.before.carried-field.ensures (not-true _ c.if3.true))
     -- add-row-at
     (λ c. let p = c.before.before in omega (arith, (in_table (field_pair p.before.loop.invariant p.loop-test.true).old.row).here, (fields-turn p).well-formed))
     (λ c κs. let p = c.before.before in in_table (field_pair p.before.loop.invariant p.loop-test.true).old.row)  -- row-at-requires-2
@@ -408,7 +408,7 @@ failing-field-met t = failing-field-lts.spec (failing-field-claims t) (failing-f
     (λ c.
     let p = c.before.before.before in
     field_next p.before.loop.invariant p.loop-test.true c.before.before.carried-field.ensures
-    (not_false _ c.before.if3.false) c.row-at2.ensures)
+    (not-false _ c.before.if3.false) c.row-at2.ensures)
     (λ c. failing_end c.before.loop.invariant c.loop-test.false)  -- returns-4
 
 -- ---- failing_wide
@@ -457,7 +457,7 @@ failing-wide-met t = failing-wide-lts.spec (failing-wide-claims t) (failing-wide
     (λ c.
     let p = c.before.before in
     let a = p.before.loop.invariant in
-    field_fails a.ahead (wide_some a p.loop-test.true) c.before.carried-found.ensures (not_true _ c.if1.true))
+    field_fails a.ahead (wide_some a p.loop-test.true) c.before.carried-found.ensures (not-true _ c.if1.true))
     -- add-row-at
     (λ c.
     let p = c.before.before in
@@ -474,7 +474,7 @@ failing-wide-met t = failing-wide-lts.spec (failing-wide-claims t) (failing-wide
     (λ c.
     let p = c.before.before.before in
     wide_next p.before.loop.invariant p.loop-test.true c.before.before.carried-found.ensures
-    (not_false _ c.before.if1.false) c.row-at2.ensures)
+    (not-false _ c.before.if1.false) c.row-at2.ensures)
     (λ c. wide_end c.before.loop.invariant c.loop-test.false)  -- returns-2
 
 pub +carried-carried-field-carried-found-carried-to-array-carried-to-map-carried-to-object-failing-field-failing-wide-spec : {M : Type 1} → statement M

@@ -5,7 +5,7 @@ use Prim.Native.Nat.{ℕ, ◌+◌, ◌-◌, ◌*◌, ◌≤◌, ◌<◌}
 use mathlib.Core.Path.{◌≡◌, sym, ◌∙◌}
 use native.Mathlib.Omega.{arith}
 use borrow.Author.Rules.{rules}
-use borrow.Author.Tests.{not_false}
+use borrow.Author.Tests.{not-false}
 use lib.ListN.{get_or, length-replicate}
 use Rattle.model.specs.Text.{text}
 use Rattle.syntax.specs.Holding.{word}
@@ -336,7 +336,7 @@ module _ (t : ℕ) where
     wide_some = wide-names.before
 
     wide-few : word (wide-given wide_some).args.rows2.now (wide-given wide_some).args.fields 3 ≤ most_names
-    wide-few = omega (arith, c.before.wide.ensures (not_false _ c.if2.false), wide-names.row_at.ensures.children)
+    wide-few = omega (arith, c.before.wide.ensures (not-false _ c.if2.false), wide-names.row_at.ensures.children)
 
   -- the next field
   module _ (c : wide-lts.In-loop wide-claims wide_at wide.Post wide-inv wide-left) where
