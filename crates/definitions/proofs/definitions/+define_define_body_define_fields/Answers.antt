@@ -16,6 +16,7 @@ use Rattle.definitions.proofs.definitions.Body.{optional_other, shared-fault, re
 use Rattle.definitions.proofs.definitions.Fields.{part_none, part_start, part_end, field_value, field_less, field_fault, field_next}
 use borrow.Enum.Refused.{opened}
 use Rattle.definitions.proofs.definitions.+define_define_body_define_fields.Goals as goal
+use Rattle.definitions.proofs.definitions.+define_define_body_define_fields.Goals.{define_body-then-optional-gt0+else-part-ne8-2, define_body-else-optional-gt0}
 use Rattle.definitions.proofs.definitions.+define_define_body_define_fields.Goals.{define_body-then-required-gt0+else-part-ne8, define_body-else-required-gt0}
 
 -- ---- define
@@ -321,7 +322,10 @@ define_body-first_shared-shared-requires t c =
       | define_body-else-required-gt0 w ↦ absurd (omega arith)
     ] in
     let body-second : 0 < c.find-optional.result → word c.args.table.now c.find-optional.result 0 ≡ 8 =
-    λ l. ⊎_elim (λ w. sym w.1.ensures.kind ∙ w.3.left) (λ w. absurd (omega arith)) c.if-optional-gt0.branch in
+    λ l. elim c.if-optional-gt0.branch [
+      | define_body-then-optional-gt0+else-part-ne8-2 w ↦ sym w.row_at-part-then-optional-gt0.ensures.kind ∙ w.if-part-ne8-2.false
+      | define_body-else-optional-gt0 w ↦ absurd (omega arith)
+    ] in
     let body-parts : Parts c.args.text.now c.args.table.now c.args.row c.find-required.result c.find-optional.result =
     parts body-found body-first body-second in
     let p = body-parts in record {
@@ -346,7 +350,10 @@ define_body-returns-then-shared-ne0 t c =
       | define_body-else-required-gt0 w ↦ absurd (omega arith)
     ] in
     let body-second : 0 < c.find-optional.result → word c.args.table.now c.find-optional.result 0 ≡ 8 =
-    λ l. ⊎_elim (λ w. sym w.1.ensures.kind ∙ w.3.left) (λ w. absurd (omega arith)) c.if-optional-gt0.branch in
+    λ l. elim c.if-optional-gt0.branch [
+      | define_body-then-optional-gt0+else-part-ne8-2 w ↦ sym w.row_at-part-then-optional-gt0.ensures.kind ∙ w.if-part-ne8-2.false
+      | define_body-else-optional-gt0 w ↦ absurd (omega arith)
+    ] in
     let body-parts : Parts c.args.text.now c.args.table.now c.args.row c.find-required.result c.find-optional.result =
     parts body-found body-first body-second in
     shared-fault body-parts c.first_shared-shared.ensures c.if-shared-ne0.true
@@ -370,7 +377,10 @@ define_body-define_fields-fault-requires t c =
       | define_body-else-required-gt0 w ↦ absurd (omega arith)
     ] in
     let body-second : 0 < c.find-optional.result → word c.args.table.now c.find-optional.result 0 ≡ 8 =
-    λ l. ⊎_elim (λ w. sym w.1.ensures.kind ∙ w.3.left) (λ w. absurd (omega arith)) c.if-optional-gt0.branch in
+    λ l. elim c.if-optional-gt0.branch [
+      | define_body-then-optional-gt0+else-part-ne8-2 w ↦ sym w.row_at-part-then-optional-gt0.ensures.kind ∙ w.if-part-ne8-2.false
+      | define_body-else-optional-gt0 w ↦ absurd (omega arith)
+    ] in
     let body-parts : Parts c.args.text.now c.args.table.now c.args.row c.find-required.result c.find-optional.result =
     parts body-found body-first body-second in
     (first-less, body-parts.first.at)
@@ -392,7 +402,10 @@ define_body-returns-then-fault-ne0 t c =
       | define_body-else-required-gt0 w ↦ absurd (omega arith)
     ] in
     let body-second : 0 < c.find-optional.result → word c.args.table.now c.find-optional.result 0 ≡ 8 =
-    λ l. ⊎_elim (λ w. sym w.1.ensures.kind ∙ w.3.left) (λ w. absurd (omega arith)) c.if-optional-gt0.branch in
+    λ l. elim c.if-optional-gt0.branch [
+      | define_body-then-optional-gt0+else-part-ne8-2 w ↦ sym w.row_at-part-then-optional-gt0.ensures.kind ∙ w.if-part-ne8-2.false
+      | define_body-else-optional-gt0 w ↦ absurd (omega arith)
+    ] in
     let body-parts : Parts c.args.text.now c.args.table.now c.args.row c.find-required.result c.find-optional.result =
     parts body-found body-first body-second in
     let body-unshared : Unshared c.args.text.now c.args.table.now c.args.row c.find-required.result c.find-optional.result =
@@ -418,7 +431,10 @@ define_body-define_fields-requires t c =
       | define_body-else-required-gt0 w ↦ absurd (omega arith)
     ] in
     let body-second : 0 < c.find-optional.result → word c.args.table.now c.find-optional.result 0 ≡ 8 =
-    λ l. ⊎_elim (λ w. sym w.1.ensures.kind ∙ w.3.left) (λ w. absurd (omega arith)) c.if-optional-gt0.branch in
+    λ l. elim c.if-optional-gt0.branch [
+      | define_body-then-optional-gt0+else-part-ne8-2 w ↦ sym w.row_at-part-then-optional-gt0.ensures.kind ∙ w.if-part-ne8-2.false
+      | define_body-else-optional-gt0 w ↦ absurd (omega arith)
+    ] in
     let body-parts : Parts c.args.text.now c.args.table.now c.args.row c.find-required.result c.find-optional.result =
     parts body-found body-first body-second in
     (second-less, body-parts.second.at)
@@ -440,7 +456,10 @@ define_body-returns t c =
       | define_body-else-required-gt0 w ↦ absurd (omega arith)
     ] in
     let body-second : 0 < c.find-optional.result → word c.args.table.now c.find-optional.result 0 ≡ 8 =
-    λ l. ⊎_elim (λ w. sym w.1.ensures.kind ∙ w.3.left) (λ w. absurd (omega arith)) c.if-optional-gt0.branch in
+    λ l. elim c.if-optional-gt0.branch [
+      | define_body-then-optional-gt0+else-part-ne8-2 w ↦ sym w.row_at-part-then-optional-gt0.ensures.kind ∙ w.if-part-ne8-2.false
+      | define_body-else-optional-gt0 w ↦ absurd (omega arith)
+    ] in
     let body-parts : Parts c.args.text.now c.args.table.now c.args.row c.find-required.result c.find-optional.result =
     parts body-found body-first body-second in
     let body-unshared : Unshared c.args.text.now c.args.table.now c.args.row c.find-required.result c.find-optional.result =
