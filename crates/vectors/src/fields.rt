@@ -1,6 +1,6 @@
 // The fields of a line, and the texts that they spell.
 ghost use Rattle.std.specs.Prelude.{◌≤◌, ◌<◌, length};
-ghost use Rattle.io.specs.Counts.{IsPrefixLen};
+ghost use Rattle.vectors.specs.Counts.{IsPrefixLen};
 
 // Where the byte first stands from index `from` on, or the length where it does not.
 pub fn find(s: &[u8], from: usize, byte: u8) -> usize
