@@ -2,7 +2,6 @@ pub mod Arrays
 pub mod Closing
 pub mod Leaves
 pub mod Lists
-pub mod Measures
 pub mod Members
 pub mod Objects
 pub mod Outcomes

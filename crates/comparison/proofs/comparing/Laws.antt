@@ -169,4 +169,4 @@ module _ {s₁ s₂ t₁ t₂ u₁ u₂ : List ℕ} (h : BothAccepted s₁ s₂ 
     compare_carried z i = promised (λ d e f g. (let m = decides d e f g in inl (i, m.1.carried (m.0 ∙ z))))
 
     pub compare_not_carried : {r : Answer} → c ≡ false → r ≡ answer 30 0 0 0 → Promised s₁ s₂ t₁ t₂ r u₁ u₂
-    compare_not_carried z i = promised (λ d e f g. (let m = decides d e f g in inr (i, m.1.not-Carried (m.0 ∙ z))))
+    compare_not_carried z i = promised (λ d e f g. (let m = decides d e f g in inr (i, m.1.not_carried (m.0 ∙ z))))

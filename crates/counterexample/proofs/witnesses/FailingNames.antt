@@ -172,7 +172,7 @@ module _ {s₁ s₂ t₁ t₂ : List ℕ} {r₁ r₂ : ℕ} (i : PairingTo s₁ 
         first_fails : (p : Pairing s₁ s₂ t₁ t₂ r₁ r₂) → Fails s₂ t₂ r₂ w (first p)
         first_fails p =
             let q = required_pair i required_at p in
-            widened s₂ t₂ v r₂ w (first p) (object_less i f) (λ e. (failing_absent e).tells q) (k.tells q)
+            widened s₂ t₂ v r₂ w (first p) (object_less i f) (λ e. (failing_absent {required = true} e).tells q) (k.tells q)
 
         -- the name between its quotes is sought in the new definition: u is found
         module _ (l : 0 < w) {x : Record} (q : Reads t₂ w x) {y : List ℕ} (z : y ≡ part s₂ (x.first + 1) (x.end - 1))
@@ -201,6 +201,6 @@ module _ {s₁ s₂ t₁ t₂ : List ℕ} {r₁ r₂ : ℕ} (i : PairingTo s₁ 
           tells = λ p.
               (let a = bare p.new.definition in
               let o = optional_pair i (optional_at g) p in
-              let y = widened s₂ t₂ u r₂ x (second p) (object_less i g) (λ e. (failing_absent e).tells o) (m.tells o) in
+              let y = widened s₂ t₂ u r₂ x (second p) (object_less i g) (λ e. (failing_absent {required = false} e).tells o) (m.tells o) in
               subst (Fails s₂ t₂ r₂ x) (both p) (fails_optional s₂ t₂ r₂ w a (first p) (second p) (first_fails p) l x y));
         }

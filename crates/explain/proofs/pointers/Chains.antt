@@ -6,7 +6,8 @@ use native.Mathlib.Omega.{arith}
 use lib.ListN.{length, length-append, get_or}
 use lib.Seq.{get_or_at}
 use Rattle.chars.specs.Strings.{part}
-use Rattle.syntax.specs.Tree.{Node, array, object, Nodes, more, Members, member}
+use Rattle.syntax.specs.Tree.{Node, scalar, array, object, Nodes, none, more, Members, no_member, member}
+use Rattle.syntax.specs.Rows.{size}
 use Rattle.syntax.specs.Holding.{Holds, HoldsAll, HoldsMembers, Placed, PlacedAll, PlacedMembers}
 use Rattle.syntax.proofs.Facts.{size_pos}
 use Rattle.explain.specs.Writing.{Puts, ElementAt, element_first, element_later, MemberAt, member_first, member_later, StepTo, to_element, to_member}
@@ -21,27 +22,33 @@ use Rattle.explain.proofs.pointers.Steps.{part_short}
 
 module _ (t : List ℕ) where
   element_holds : {i r j c : ℕ} {m : Node} (ns : Nodes) → HoldsAll t r ns → ElementAt i r ns j c m → Holds t c m
+  element_holds none h a = elim a [ ]
   element_holds (more n ns) h element_first = h.0
-  element_holds (more n ns) h (element_later a) = element_holds ns h.1 a
+  element_holds {i} {r} (more n ns) h (element_later a) = element_holds {i = i + 1} {r = r + size n} ns h.1 a
 
   member_holds : {r g k c : ℕ} {m : Node} (ms : Members) → HoldsMembers t r ms → MemberAt r ms g k c m → Holds t c m
+  member_holds no_member h a = elim a [ ]
   member_holds (member f e n ms) h member_first = h.1
-  member_holds (member f e n ms) h (member_later a) = member_holds ms h.2 a
+  member_holds {r} (member f e n ms) h (member_later a) = member_holds {r = r + 1 + size n} ms h.2 a
 
   pub step_holds : {s : List ℕ} {r c : ℕ} {m : Node} {w : List ℕ} (n : Node) → Holds t r n → StepTo s r n c m w → Holds t c m
+  step_holds (scalar k f e) h a = elim a [ ]
   step_holds (array f e ns) h (to_element a) = element_holds ns h.1 a
   step_holds (object f e ms) h (to_member a) = member_holds ms h.1 a
 
 module _ (s : List ℕ) where
   element_placed : {i r j c : ℕ} {m : Node} (ns : Nodes) → PlacedAll s ns → ElementAt i r ns j c m → Placed s m
+  element_placed none p a = elim a [ ]
   element_placed (more n ns) p element_first = p.0
-  element_placed (more n ns) p (element_later a) = element_placed ns p.1 a
+  element_placed {i} {r} (more n ns) p (element_later a) = element_placed {i = i + 1} {r = r + size n} ns p.1 a
 
   member_placed : {r g k c : ℕ} {m : Node} (ms : Members) → PlacedMembers s ms → MemberAt r ms g k c m → Placed s m
+  member_placed no_member p a = elim a [ ]
   member_placed (member f e n ms) p member_first = p.1
-  member_placed (member f e n ms) p (member_later a) = member_placed ms p.2 a
+  member_placed {r} (member f e n ms) p (member_later a) = member_placed {r = r + 1 + size n} ms p.2 a
 
   pub step_placed : {r c : ℕ} {m : Node} {w : List ℕ} (n : Node) → Placed s n → StepTo s r n c m w → Placed s m
+  step_placed (scalar k f e) p a = elim a [ ]
   step_placed (array f e ns) p (to_element a) = element_placed ns p.2 a
   step_placed (object f e ms) p (to_member a) = member_placed ms p.2 a
 

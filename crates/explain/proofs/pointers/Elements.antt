@@ -4,7 +4,7 @@ use mathlib.Core.Path.{◌≡◌, refl, ap, ◌∙◌}
 use mathlib.Core.List.{List}
 use native.Mathlib.Omega.{arith}
 use lib.ListN.{length}
-use Rattle.syntax.specs.Tree.{Node, scalar, array, object, Nodes, more}
+use Rattle.syntax.specs.Tree.{Node, scalar, array, object, Nodes, none, more}
 use Rattle.syntax.specs.Rows.{row_words, size}
 use Rattle.syntax.specs.Holding.{word, Holds, HoldsAll}
 use Rattle.syntax.proofs.Facts.{size_pos}
@@ -43,6 +43,7 @@ pub record Before (t : List ℕ) (c j : ℕ) (m : Node) (row index : ℕ) : Type
 
 before_of : {t : List ℕ} {c j : ℕ} {m : Node} {row index : ℕ} (rest : Nodes) → HoldsAll t row rest → ElementAt index row rest j c m → index ≤ row → row < c
     → Before t c j m row index
+before_of none h a b l = elim a [ ]
 before_of (more n ns) h element_first b l = absurd (omega arith)
 before_of {t} {c} {j} {m} {row} {index} (more n ns) h (element_later a) b l =
     let z : word t row 4 ≡ size n = (rows_of t row n h.0).0 in

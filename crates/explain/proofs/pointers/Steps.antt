@@ -6,7 +6,8 @@ use native.Mathlib.Omega.{arith}
 use lib.ListN.{length, length-take, length-drop}
 use Rattle.chars.specs.Strings.{characters, part}
 use Rattle.tokens.specs.Spelling.{IsQuoted}
-use Rattle.syntax.specs.Tree.{Node, array, object, Members, member}
+use Rattle.syntax.specs.Tree.{Node, scalar, array, object, Members, no_member, member}
+use Rattle.syntax.specs.Rows.{size}
 use Rattle.syntax.specs.Grammar.{name_of}
 use Rattle.syntax.specs.Holding.{word, Row, Holds, HoldsMembers, Placed, PlacedMembers}
 use Rattle.rows.specs.Records.{InTable, Reads}
@@ -37,10 +38,12 @@ named_first {s} {t} {r} {f} {e} h q =
 
 named_of : {s t : List ℕ} {r g k c : ℕ} {m : Node} (ms : Members) → HoldsMembers t r ms → PlacedMembers s ms → MemberAt r ms g k c m
     → Named s t c (name_token (name_of s g k))
+named_of no_member h p a = elim a [ ]
 named_of (member f e n ms) h p member_first = named_first h.0 p.0
-named_of (member f e n ms) h p (member_later a) = named_of ms h.2 p.2 a
+named_of {r = r} (member f e n ms) h p (member_later a) = named_of {r = r + 1 + size n} ms h.2 p.2 a
 
 member_of : {s t : List ℕ} {r c : ℕ} {m : Node} {w : List ℕ} (n : Node) → Holds t r n → Placed s n → StepTo s r n c m w → word t r 0 ≡ 8 → Named s t c w
+member_of (scalar q f e) h p a k = elim a [ ]
 member_of (array f e ns) h p (to_element a) k = absurd (omega (arith, h.0.kind))
 member_of (object f e ms) h p (to_member a) k = named_of ms h.1 p.2 a
 
@@ -51,6 +54,7 @@ pub record Indexed (t : List ℕ) (r c : ℕ) (w : List ℕ) : Type 0 where
   pub is : w ≡ index_token element.index
 
 element_of : {s t : List ℕ} {r c : ℕ} {m : Node} {w : List ℕ} (n : Node) → Holds t r n → StepTo s r n c m w → (word t r 0 ≡ 8 → ⊥) → Indexed t r c w
+element_of (scalar q f e) h a k = elim a [ ]
 element_of {m = m} (array f e ns) h (to_element {j = j} a) k =
     record { element = record { elements = ns; holds = h.1; index = j; value = m; is = a }; is = refl }
 element_of (object f e ms) h (to_member a) k = absurd (k h.0.kind)

@@ -61,17 +61,19 @@ module _ (s : List ℕ) (row : ℕ) (w : List ℕ) where
   -- ---- a chain ends at one of them
 
   points_element : (before : List ℕ) {i r j c : ℕ} {m : Node} (ns : Nodes) → ElementAt i r ns j c m → In (indexed before j) c m → InAll before i r ns
+  points_element before none a h = elim a [ ]
   points_element before {i} {r} (more n ns) element_first h =
       points_left row w (pointers s (indexed before i) r n) (pointers_all s before (i + 1) (r + size n) ns) h
   points_element before {i} {r} (more n ns) (element_later a) h =
-      points_right row w (pointers s (indexed before i) r n) (pointers_all s before (i + 1) (r + size n) ns) (points_element before ns a h)
+      points_right row w (pointers s (indexed before i) r n) (pointers_all s before (i + 1) (r + size n) ns) (points_element before {i = i + 1} {r = r + size n} ns a h)
 
   points_member : (before : List ℕ) {r g k c : ℕ} {m : Node} (ms : Members) → MemberAt r ms g k c m → In (named s before g k) c m
       → InMembers before r ms
+  points_member before no_member a h = elim a [ ]
   points_member before {r} (member f e n ms) member_first h =
       points_left row w (pointers s (named s before f e) (r + 1) n) (pointers_members s before (r + 1 + size n) ms) h
   points_member before {r} (member f e n ms) (member_later a) h =
-      points_right row w (pointers s (named s before f e) (r + 1) n) (pointers_members s before (r + 1 + size n) ms) (points_member before ms a h)
+      points_right row w (pointers s (named s before f e) (r + 1) n) (pointers_members s before (r + 1 + size n) ms) (points_member before {r = r + 1 + size n} ms a h)
 
   points_step : (before : List ℕ) {r c : ℕ} {n m : Node} {token : List ℕ} → StepTo s r n c m token → In (before ++ token) c m → In before r n
   points_step before (to_element {ns = ns} a) h = inr (points_element before ns a h)

@@ -59,6 +59,7 @@ least_first a (k ∷ ks) = le_trans (least_of (lesser k a) ks) (lesser k a) a (l
 least_all : (a : ℤ) (ms : List ℤ) (m : ℤ) → Listed m (a ∷ ms) → le_z (least_of a ms) m ≡ true
 unfolding least_of
 least_all a ms m (inl e) = rw e (least_first a ms)
+least_all a [] m (inr h) = elim h [ ]
 least_all a (k ∷ ks) m (inr (inl e)) = rw e (le_trans (least_of (lesser k a) ks) (lesser k a) k (least_first (lesser k a) ks) (lesser_left k a))
 least_all a (k ∷ ks) m (inr (inr h)) = least_all (lesser k a) ks m (inr h)
 
@@ -70,6 +71,7 @@ greatest_first a (k ∷ ks) = le_trans a (greater a k) (greatest_of (greater a k
 greatest_all : (a : ℤ) (ms : List ℤ) (m : ℤ) → Listed m (a ∷ ms) → le_z m (greatest_of a ms) ≡ true
 unfolding greatest_of
 greatest_all a ms m (inl e) = rw e (greatest_first a ms)
+greatest_all a [] m (inr h) = elim h [ ]
 greatest_all a (k ∷ ks) m (inr (inl e)) = rw e (le_trans k (greater a k) (greatest_of (greater a k) ks) (greater_right a k) (greatest_first (greater a k) ks))
 greatest_all a (k ∷ ks) m (inr (inr h)) = greatest_all (greater a k) ks m (inr h)
 

@@ -1,0 +1,12 @@
+-- `writer::runs::ordinary_end` meets its contract. The loop's invariant: the run from `at` on ends where that from i on does.
+use mathlib.Core.Path.{◌≡◌}
+use Prim.Native.Nat.{◌-◌}
+use lib.ListN.{length}
+use Rattle.writer.specs.Runs.{ordinary_end}
+use Rattle.writer.proofs.runs.ordinary_end.Given as goal
+
+abbrev pub invariant-loop-i : goal.invariant-loop-i
+invariant-loop-i l = ordinary_end l.text l.at ≡ ordinary_end l.text l.i
+
+abbrev pub decreases-loop-i : goal.decreases-loop-i
+decreases-loop-i l = length l.text - l.i
