@@ -24,6 +24,7 @@ pub fn load(rt: &(impl Env + Files), i: usize, buf: &mut [u8]) -> Loaded
     let Ok(n) = rt.arg(i, &mut path) else {
         return Loaded::NoFile;
     };
+    // a name that is not UTF-8, as the paths of std are
     let Ok(path) = str::from_utf8(&path[..n]) else {
         return Loaded::NoFile;
     };

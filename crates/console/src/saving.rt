@@ -34,6 +34,7 @@ pub fn save(rt: &(impl Env + Files + RandomSource), i: usize, bytes: &[u8]) -> b
         return false;
     };
     let beside = path;
+    // a name that is not UTF-8, as the paths of std are
     let Ok(path) = str::from_utf8(&path[..n]) else {
         return false;
     };
