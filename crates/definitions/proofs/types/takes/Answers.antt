@@ -11,9 +11,7 @@ use Rattle.definitions.specs.Types.{takes_kind}
 use Rattle.definitions.specs.declared.types.TypeName.{TypeName}
 use Rattle.definitions.specs.declared.types.TypeName.TheVariants.{Json, Schema, Float, Integer, Text, Boolean, DateTime, Unknown}
 use Rattle.definitions.specs.contracts.types.TypeName.{the_type}
-use borrow.Author.Rules.{rules}
-use Rattle.definitions.proofs.types.takes.Statement.{statement}
-use Rattle.definitions.proofs.types.takes.Tie as tie
+use Rattle.definitions.proofs.types.takes.Goals as goal
 
 -- a tag that is none of the three
 none : (t : ℕ) → (t ≡ 1) ⊎ ((t ≡ 6) ⊎ (t ≡ 7)) → (t ≡ 1 → ⊥) → t < 6 → ⊥
@@ -33,19 +31,34 @@ takes_none Boolean k h = absurd (none 5 h (λ e. omega arith) (lit< tt))
 takes_none DateTime k h = refl
 takes_none Unknown k h = refl
 
-pub takes-spec : {M : Type 1} → statement M
+pub returns-in-Json : goal.returns-in-Json
 unfolding takes_kind
-takes-spec = tie.close (tie.spec
-    (λ c. search rules)  -- enum_told
-    (λ c. search rules)  -- enum-told-2
-    (λ c. search rules)  -- enum-told-3
-    (λ c. search rules)  -- enum-told-4
-    (λ c. search rules)  -- enum-told-5
-    (λ c. rw c.enum_told.given.1)  -- returns
-    (λ c. rw (c.before.enum-told2.given.1, c.if1.true))  -- returns-2
-    (λ c. rw (c.before.enum-told2.given.1, ne_eqb _ 4 c.if1.false))  -- returns-3
-    (λ c. rw c.enum-told3.given.1)  -- returns-4
-    (λ c. rw c.enum-told4.given.1)  -- returns-5
-    (λ c. rw (c.before.enum-told5.given.1, c.if2.true))  -- returns-6
-    (λ c. rw (c.before.enum-told5.given.1, ne_eqb _ 2 c.if2.false))  -- returns-7
-    (λ c. takes_none c.before.args.name c.before.args.kind c.match.keys6))  -- returns-8
+returns-in-Json c = rw c.in-Json.is
+
+pub returns-then-kind-eq4 : goal.returns-then-kind-eq4
+unfolding takes_kind
+returns-then-kind-eq4 c = rw (c.in-Float.is, c.if-kind-eq4.true)
+
+pub returns-else-kind-eq4 : goal.returns-else-kind-eq4
+unfolding takes_kind
+returns-else-kind-eq4 c = rw (c.in-Float.is, ne_eqb _ 4 c.if-kind-eq4.false)
+
+pub returns-in-Integer : goal.returns-in-Integer
+unfolding takes_kind
+returns-in-Integer c = rw c.in-Integer.is
+
+pub returns-in-Text : goal.returns-in-Text
+unfolding takes_kind
+returns-in-Text c = rw c.in-Text.is
+
+pub returns-then-kind-eq2 : goal.returns-then-kind-eq2
+unfolding takes_kind
+returns-then-kind-eq2 c = rw (c.in-Boolean.is, c.if-kind-eq2.true)
+
+pub returns-else-kind-eq2 : goal.returns-else-kind-eq2
+unfolding takes_kind
+returns-else-kind-eq2 c = rw (c.in-Boolean.is, ne_eqb _ 2 c.if-kind-eq2.false)
+
+pub returns-in_default : goal.returns-in_default
+unfolding takes_kind
+returns-in_default c = takes_none c.args.name c.args.kind c.in_default.in_default-own.keys6
