@@ -6,7 +6,7 @@ use crate::bytes::{code_of, digit_at, escape_of, highest, lowest, peek, six_at, 
 use crate::plain::is_plain;
 
 // What stands at a place of a string: a character, with its scalar value and the place behind it; the closing quote; or an offence.
-#[derive(Drop)]
+#[derive(Clone, Copy)]
 pub enum Step {
     Char { value: u32, next: usize },
     Quote,
@@ -14,7 +14,7 @@ pub enum Step {
 }
 
 // Two hex digits, or the place of the first that is none.
-#[derive(Drop)]
+#[derive(Clone, Copy)]
 pub enum Hex {
     Pair(u16),
     Bad(usize),

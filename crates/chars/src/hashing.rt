@@ -5,7 +5,7 @@ ghost use Rattle.chars.specs.Hashing.{mix, finish, hashed_at};
 use crate::characters::{Step, char_at};
 
 // Where a name ends, behind its closing quote, and the hash of its characters.
-#[derive(Drop)]
+#[derive(Clone, Copy)]
 pub enum Hashed {
     Name { end: usize, hash: u64 },
     Broken { code: u32, place: usize },

@@ -9,7 +9,7 @@ use crate::plain::{is_plain, plain_end};
 use crate::wide::wides;
 
 // Where a string ends: behind its closing quote.
-#[derive(Drop)]
+#[derive(Clone, Copy)]
 pub enum Scan {
     Ends(usize),
     Stopped { code: u32, place: usize },

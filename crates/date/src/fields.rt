@@ -6,7 +6,7 @@ use crate::calendar::in_calendar;
 use crate::walk::{Number, four, marked, two};
 
 // A day that the calendar has, and the place behind it.
-#[derive(Drop)]
+#[derive(Clone, Copy)]
 pub enum Date {
     On {
         year: u32,
@@ -18,7 +18,7 @@ pub enum Date {
 }
 
 // The minutes of a time of the day, and the place behind it.
-#[derive(Drop)]
+#[derive(Clone, Copy)]
 pub enum Time {
     At { minutes: u32, next: usize },
     NoTime,

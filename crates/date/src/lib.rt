@@ -23,7 +23,7 @@ use crate::walk::{Found, Number, either, marked};
 pub use spelling::day_text;
 
 // A string that is judged as a date: its moment, or that it is none.
-#[derive(Drop)]
+#[derive(Clone, Copy)]
 pub enum Moment {
     At(i64),
     NoDate,

@@ -5,14 +5,14 @@ ghost use Rattle.date.specs.Walk.{Stands, DigitTold, TwoTold, FourTold, MarkTold
 use chars::{Step, char_at, peek};
 
 // A number, and the place behind its digits.
-#[derive(Drop)]
+#[derive(Clone, Copy)]
 pub enum Number {
     Read { value: u32, next: usize },
     Wrong,
 }
 
 // The place behind a mark.
-#[derive(Drop)]
+#[derive(Clone, Copy)]
 pub enum Found {
     Behind(usize),
     Nothing,

@@ -8,7 +8,7 @@ use chars::same_name;
 use rows::{between, find, row_at};
 
 // Codes 10 to 12 with their place; code 0 of a definition.
-#[derive(Drop)]
+#[derive(Clone, Copy)]
 pub struct Fault {
     pub code: u32,
     pub place: u32,

@@ -7,7 +7,7 @@ ghost use Rattle.definitions.specs.Types.{type_name, generic_of, takes_kind};
 use chars::same_name;
 
 // The type that a string names.
-#[derive(Drop)]
+#[derive(Clone, Copy)]
 pub enum TypeName {
     Json,
     Schema,
@@ -20,7 +20,7 @@ pub enum TypeName {
 }
 
 // The generic type that a member of a definition names.
-#[derive(Drop)]
+#[derive(Clone, Copy)]
 pub enum Generic {
     Array,
     Map,

@@ -10,7 +10,7 @@ use schema::PATH_WORDS;
 use syntax::Answer;
 
 // Check's answer, and how many bytes the pointer has.
-#[derive(Drop)]
+#[derive(Clone, Copy)]
 pub struct Explained {
     pub answer: Answer,
     pub length: usize,

@@ -12,7 +12,7 @@ use marks::{leaf_mark, list_mark, name, push};
 use tokens::{First, Token, first_at, integer_end, scalar, skip};
 
 // A value: where it ends and how many rows it has; or a refusal.
-#[derive(Drop)]
+#[derive(Clone, Copy)]
 pub enum Scanned {
     Refused { code: u32, place: usize },
     Value { end: usize, rows: usize },
@@ -47,7 +47,7 @@ fn leaf(first: First, text: &[u8], marks: &mut [u64], row: usize, at: usize) -> 
 }
 
 // What stands behind an item and the space after it: the closing byte, a comma with the next item behind it, or neither.
-#[derive(Drop)]
+#[derive(Clone, Copy)]
 pub enum Following {
     Closing { end: usize },
     Item { at: usize },

@@ -7,7 +7,7 @@ ghost use Rattle.rows.specs.Records.{InTable, Reads};
 use syntax::word;
 
 // A row: its kind, where its bytes begin and end, how many children it has, and the row behind its subtree.
-#[derive(Drop)]
+#[derive(Clone, Copy)]
 pub struct Record {
     pub kind: u32,
     pub first: u32,

@@ -13,7 +13,7 @@ use reader::read_within;
 use syntax::{Answer, Limits};
 
 // The answer, and how many rows the path has.
-#[derive(Drop)]
+#[derive(Clone, Copy)]
 pub struct Checked {
     pub answer: Answer,
     pub steps: u32,

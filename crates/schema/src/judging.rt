@@ -12,7 +12,7 @@ use definitions::{Generic, TypeName, define, generic_name, named_type, takes};
 use rows::{FEW_NAMES, MOST_NAMES, between, find, match_names, row_at, wide};
 
 // Codes 20 to 22 with the place in the document and the other in the schema; code 0 where there is none.
-#[derive(Drop)]
+#[derive(Clone, Copy)]
 pub struct Mismatch {
     pub code: u32,
     pub place: u32,

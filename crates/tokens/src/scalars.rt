@@ -11,7 +11,7 @@ use crate::tokens::{Token, unexpected};
 use chars::{Scan, peek, string_end};
 
 // What the first byte of a value begins.
-#[derive(Drop)]
+#[derive(Clone, Copy)]
 pub enum First {
     Array,
     Object,

@@ -4,7 +4,7 @@ ghost use Rattle.tokens.specs.Parse.{unexpected};
 ghost use Rattle.tokens.specs.Tokens.{token_of};
 
 // The kind of a value, by its number in a row, with the place behind it; or a refusal.
-#[derive(Drop)]
+#[derive(Clone, Copy)]
 pub enum Token {
     Taken { kind: u32, end: usize },
     Broken { code: u32, place: usize },

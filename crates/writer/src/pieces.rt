@@ -9,7 +9,7 @@ use crate::runs::{copy_atom, copy_ordinary, is_structural, ordinary_end};
 use chars::{Step, char_at, peek};
 
 // The place behind a token in the text, and how many bytes are written for it.
-#[derive(Drop)]
+#[derive(Clone, Copy)]
 pub struct Piece {
     pub next: usize,
     pub len: usize,
