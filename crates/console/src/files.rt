@@ -9,7 +9,7 @@ use std::{fs, str};
 pub(crate) const PATH_MAX: usize = 4096;
 
 // How many bytes of the file are at the start of the buffer, or that it cannot be read.
-#[derive(Drop)]
+#[derive(Clone, Copy)]
 pub enum Loaded {
     Bytes(usize),
     NoFile,

@@ -9,7 +9,7 @@ pub fn no_file(rt: &impl Print) {
 }
 
 // 01: "the four numbers in decimal on one line, a space between".
-pub fn answer(rt: &impl Print, a: &Answer) {
+pub fn answer(rt: &impl Print, a: Answer) {
     number(rt, a.code, b" ");
     number(rt, a.text, b" ");
     number(rt, a.place, b" ");

@@ -22,7 +22,7 @@ fn read(rt: &(impl Env + Files + Print)) {
         return;
     };
     let mut table = [0u32; TABLE];
-    answer(rt, &reader::read(&text[..n], &mut table));
+    answer(rt, reader::read(&text[..n], &mut table));
 }
 
 // `check FILE FILE`: a document and a schema.
@@ -49,7 +49,7 @@ fn check(rt: &(impl Env + Files + Print)) {
         &mut dates,
         &mut path,
     );
-    answer(rt, &r.answer);
+    answer(rt, r.answer);
 }
 
 // `compare FILE FILE`: a new schema and an old one.
@@ -68,7 +68,7 @@ fn compare(rt: &(impl Env + Files + Print)) {
     let mut table2 = [0u32; TABLE];
     answer(
         rt,
-        &comparison::compare(&new[..n], &old[..m], &mut table1, &mut table2),
+        comparison::compare(&new[..n], &old[..m], &mut table1, &mut table2),
     );
 }
 

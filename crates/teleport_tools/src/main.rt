@@ -27,7 +27,7 @@ fn load_one(rt: &(impl Env + Files + RandomSource + Print)) {
 }
 
 // The commands that read two files.
-#[derive(Drop)]
+#[derive(Clone, Copy)]
 enum Pair {
     Counterexample,
     Dates,
@@ -65,7 +65,7 @@ fn load_both(rt: &(impl Env + Files + RandomSource + Print), command: Pair) {
 }
 
 // What the arguments ask for.
-#[derive(Drop)]
+#[derive(Clone, Copy)]
 enum Command {
     Compact,
     Two(Pair),

@@ -19,7 +19,7 @@ pub fn dates(
     let mut dates = [0i64; 3];
     let mut path = [0u32; PATH_WORDS];
     let r = schema::check(document, schema, table1, table2, &mut dates, &mut path);
-    answer(rt, &r.answer);
+    answer(rt, r.answer);
     if r.answer.code == 0 {
         three(rt, dates);
     }
@@ -37,13 +37,13 @@ pub fn explain(
     let mut pointer = [0u8; POINTER];
     let r = explain::explain(document, schema, table1, table2, &mut pointer);
     let a = r.answer;
-    answer(rt, &a);
+    answer(rt, a);
     if a.code < 20 {
         return;
     }
     let length = least(r.length, POINTER);
     line(rt, &pointer[..length]);
-    explain_places(rt, &a, document, schema);
+    explain_places(rt, a, document, schema);
 }
 
 // The lesser of two.
@@ -54,7 +54,7 @@ fn least(a: usize, b: usize) -> usize
 }
 
 // What the mismatch is, and by what it is one.
-fn explain_places(rt: &impl Print, a: &Answer, document: &[u8], schema: &[u8]) {
+fn explain_places(rt: &impl Print, a: Answer, document: &[u8], schema: &[u8]) {
     excerpt(rt, document, a.place, b"document", misfit(a.code));
     excerpt(rt, schema, a.other, b"schema", rule(a.code));
 }

@@ -61,7 +61,7 @@ fn read_into(rt: &impl Print, field: &[u8], table: &mut [u32]) -> bool {
         return false;
     }
     let n = decoded.len;
-    lines::answer(rt, &reader::read(&text[..n], table));
+    lines::answer(rt, reader::read(&text[..n], table));
     true
 }
 
@@ -95,7 +95,7 @@ fn check(rt: &impl Print, fields: &[u8]) -> bool {
         &mut dates,
         &mut path,
     );
-    lines::answer(rt, &r.answer);
+    lines::answer(rt, r.answer);
     true
 }
 
@@ -121,7 +121,7 @@ fn compare(rt: &impl Print, fields: &[u8]) -> bool {
     let mut table2 = [0u32; TABLE];
     lines::answer(
         rt,
-        &comparison::compare(&new[..n], &old[..m], &mut table1, &mut table2),
+        comparison::compare(&new[..n], &old[..m], &mut table1, &mut table2),
     );
     true
 }

@@ -2,7 +2,7 @@
 use syntax::Answer;
 
 // 01: "the four numbers in decimal on one line, a space between".
-pub fn answer(rt: &impl Print, a: &Answer) {
+pub fn answer(rt: &impl Print, a: Answer) {
     put_decimal(rt, a.code);
     word(rt, a.text);
     word(rt, a.place);

@@ -15,5 +15,5 @@ pub fn compact(rt: &(impl Env + Files + RandomSource + Print), text: &[u8], tabl
             return;
         }
     }
-    answer(rt, &a);
+    answer(rt, a);
 }

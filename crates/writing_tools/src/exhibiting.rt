@@ -23,7 +23,7 @@ pub fn counterexample(
             no_file(rt);
             return;
         }
-        answer(rt, &a);
+        answer(rt, a);
         let mut dates = [0i64; 3];
         let mut path = [0u32; PATH_WORDS];
         let r = schema::check(
@@ -34,8 +34,8 @@ pub fn counterexample(
             &mut dates,
             &mut path,
         );
-        answer(rt, &r.answer);
+        answer(rt, r.answer);
         return;
     }
-    answer(rt, &a);
+    answer(rt, a);
 }
