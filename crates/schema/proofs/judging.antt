@@ -5,7 +5,6 @@ pub mod First
 pub mod OtherKinds
 pub mod Laws
 pub mod Looking
-pub mod Measures
 pub mod Meeting
 pub mod Order
 pub mod TypeNames

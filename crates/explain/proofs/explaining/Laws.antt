@@ -30,8 +30,8 @@ at_points r w [] h = absurd h
 at_points r w (p ∷ ps) h =
     by_test (eqb p.row r) (λ y. inl (sym (eqb-true p.row r y), rw y))
     (λ n.
-        let e : pointer_at r (p ∷ ps) ≡ pointer_at r ps = rw n in
-        inr (subst (λ (b : List ℕ). Points r b ps) (sym e) (at_points r w ps (⊎_elim (λ q. absurd (eqb-false p.row r n (sym q.0))) (λ q. q) h))))
+    let e : pointer_at r (p ∷ ps) ≡ pointer_at r ps = rw n in
+    inr (subst (λ (b : List ℕ). Points r b ps) (sym e) (at_points r w ps (⊎_elim (λ q. absurd (eqb-false p.row r n (sym q.0))) (λ q. q) h))))
 
 -- what Explain promises of its answer, the tables u₁ and u₂ that it leaves and the buffer v, for a document s₁ and a schema s₂ with tables t₁ and t₂
 -- and a buffer o
