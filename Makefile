@@ -11,13 +11,15 @@ all: $(LIBRARY)/libteleport.a $(LIBRARY)/$(SHARED) $(LIBRARY)/libteleport.so $(L
 .PHONY: all programs install FORCE
 
 # rt knows what has changed; one of its commands runs at a time.
-programs: $(LIBRARY)/libteleport.a
-	rt check teleport teleport_tools
+.NOTPARALLEL:
+
+programs: $(PROGRAMS)/teleport $(PROGRAMS)/teleport_tools
+
+$(PROGRAMS)/%: FORCE
+	tools/build $* $@
 
 $(LIBRARY)/libteleport.a: FORCE
-	rt staticlib teleport_c
-	mkdir -p $(LIBRARY)
-	cp target/staticlib/libteleport_c.a $@
+	tools/build teleport_c $@
 
 $(LIBRARY)/$(SHARED): $(LIBRARY)/libteleport.a
 	$(CC) -shared -Wl,-soname,$(SHARED) -o $@ -Wl,--whole-archive $< -Wl,--no-whole-archive
