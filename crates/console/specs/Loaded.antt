@@ -1,8 +1,11 @@
--- What the contracts of `files.rt` cite.
-use Rattle.std.specs.Prelude.{ℕ, List}
-use Rattle.io.specs.Counts.{IsPrefixLen}
+-- What the contracts of `files.rt` and `saving.rt` cite.
+use Rattle.std.specs.Prelude.{ℕ, List, ◌≡◌, ◌≤◌, length, take}
 use Rattle.console.specs.declared.files.Loaded.{Loaded}
 use Rattle.console.specs.declared.files.Loaded.TheVariants.{Bytes, NoFile}
+
+-- `&buf[..n]` is in bounds and has n bytes. The second part follows from the first, and spares a caller's `&buf[..n]` a proof file.
+abbrev pub IsPrefixLen : ℕ → List ℕ → Type 0
+IsPrefixLen n buf = (n ≤ length buf) × (n ≡ length (take n buf))
 
 -- the bytes loaded lie within the buffer
 abbrev pub Within : List ℕ → Loaded → Type 0

@@ -1,37 +1,37 @@
 // The line of a text in which a place lies, and a mark under the place.
 ghost use Rattle.std.specs.Prelude.{◌≤◌, ◌<◌, length};
 
-use libc::STDOUT_FILENO;
+use crate::lines::{put, put_decimal};
 
 // How many bytes of a line are shown before the place, and how many from it on.
 const SHOWN: usize = 60;
 
 // Prints the line in which a place of a text lies, or what is near the place if it is long, and a line with a mark under the place. Behind the mark
 // stand the name of the text, the number of the line and what is said of the place.
-pub fn excerpt(text: &[u8], place: u32, name: &[u8], words: &[u8]) {
+pub fn excerpt(rt: &impl Print, text: &[u8], place: u32, name: &[u8], words: &[u8]) {
     let at = within(text, place);
     let first = first_shown(text, at);
     let end = end_shown(text, at);
     let cut = !is_line_start(text, first);
     if cut {
-        io::write_all(STDOUT_FILENO, b"...");
+        put(rt, b"...");
     }
-    io::write_all(STDOUT_FILENO, &text[first..end]);
+    put(rt, &text[first..end]);
     if !is_line_end(text, end) {
-        io::write_all(STDOUT_FILENO, b"...");
+        put(rt, b"...");
     }
-    io::write_all(STDOUT_FILENO, b"\n");
+    put(rt, b"\n");
     if cut {
-        io::write_all(STDOUT_FILENO, b"   ");
+        put(rt, b"   ");
     }
-    pad(&text[first..at]);
-    io::write_all(STDOUT_FILENO, b"^ ");
-    io::write_all(STDOUT_FILENO, name);
-    io::write_all(STDOUT_FILENO, b", line ");
-    io::print_decimal(STDOUT_FILENO, line_number(text, at) as u64);
-    io::write_all(STDOUT_FILENO, b": ");
-    io::write_all(STDOUT_FILENO, words);
-    io::write_all(STDOUT_FILENO, b"\n");
+    pad(rt, &text[first..at]);
+    put(rt, b"^ ");
+    put(rt, name);
+    put(rt, b", line ");
+    put_decimal(rt, line_number(text, at) as u64);
+    put(rt, b": ");
+    put(rt, words);
+    put(rt, b"\n");
 }
 
 // A place in a text, at most its end.
@@ -134,15 +134,13 @@ fn end_shown(text: &[u8], at: usize) -> usize
 }
 
 // Prints a space for each character, and a tab for a tab.
-fn pad(shown: &[u8]) {
-    let mut i = 0;
-    while i < shown.len() {
-        if shown[i] == b'\t' {
-            io::write_all(STDOUT_FILENO, b"\t");
-        } else if !goes_on(shown[i]) {
-            io::write_all(STDOUT_FILENO, b" ");
+fn pad(rt: &impl Print, shown: &[u8]) {
+    for byte in shown {
+        if *byte == b'\t' {
+            put(rt, b"\t");
+        } else if !goes_on(*byte) {
+            put(rt, b" ");
         }
-        i += 1;
     }
 }
 

@@ -7,89 +7,149 @@
 //
 // What else may have the name cannot be replaced so, and is no file: a folder, a device, a pipe, and
 // a link, which would be cut off from what it leads to.
-ghost use Rattle.io.specs.Counts.{IsPrefixLen};
+ghost use Rattle.console.specs.Loaded.{IsPrefixLen};
 
+use crate::files::PATH_MAX;
 use crate::modes::{is_file, mode_of, rights};
-use libc::PATH_MAX;
+use std::fs::{OpenFile, OpenOptions, Permissions};
+use std::io::{ErrorKind, Write};
+use std::os::unix::fs::{OpenOptionsExt, PermissionsExt};
+use std::random::RandomSource;
+use std::rt::{Env, Files};
+use std::{fs, io, str};
+
+// What is asked for a new file, which the system narrows: everyone may read and write it, or its owner alone.
+const FOR_ALL: u32 = 0o666;
+
+const FOR_OWNER: u32 = 0o600;
+
+// How many names are tried for a temporary file.
+const TRIES: usize = 100;
 
 // Writes the file that argument i names, and tells whether it could.
-pub fn save(i: usize, bytes: &[u8]) -> bool {
-    let mut path = io::buffer();
-    let n = os::arg(i, &mut path);
+pub fn save(rt: &(impl Env + Files + RandomSource), i: usize, bytes: &[u8]) -> bool {
+    let mut path = [0u8; PATH_MAX];
     // an argument that is missing, or that is no path since it is too long
-    if os::errno() != 0 {
+    let Ok(n) = rt.arg(i, &mut path) else {
         return false;
-    }
-    let fd = os::create(&path[..n]);
-    if fd >= 0 {
-        return write_new(fd, bytes, &path[..n]);
-    }
-    if os::errno() != libc::EEXIST {
-        return false;
-    }
-    if is_link(path) {
-        return false;
-    }
+    };
     let beside = path;
-    let mode = mode_at(&path[..n]);
-    if !is_file(mode) {
+    // a name that is not UTF-8, as the paths of std are
+    let Ok(path) = str::from_utf8(&path[..n]) else {
         return false;
+    };
+    match create(rt, path, FOR_ALL) {
+        Ok(file) => write_new(rt, file, bytes, path),
+        Err(error) => error.kind() == ErrorKind::AlreadyExists
+            && save_over(rt, path, beside, bytes),
     }
-    replace(&path[..n], beside, rights(mode), bytes)
 }
 
-// Writes a file that was made just now, and removes it where that fails. A disk may refuse bytes as
-// late as when they are synced or the file is closed.
-fn write_new(fd: i32, bytes: &[u8], path: &[u8]) -> bool {
-    let written = io::write_all(fd, bytes);
-    let synced = libc::fsync(fd);
-    let closed = libc::close(fd);
-    if written && synced == 0 && closed == 0 {
+// Makes a file under a name that is free.
+fn create<R: Files>(rt: &R, path: &str, mode: u32) -> io::Result<R::File> {
+    OpenOptions::new()
+        .write(true)
+        .create_new(true)
+        .mode(mode)
+        .open(rt, path)
+}
+
+// Writes a file that was made just now, and removes it where that fails.
+fn write_new<R: Files>(rt: &R, file: R::File, bytes: &[u8], path: &str) -> bool {
+    if write_synced(file, bytes) {
         return true;
     }
-    os::unlink(path);
+    remove(rt, path);
     false
 }
 
+// Writes a file and closes it. A disk may refuse bytes as late as when they are synced.
+fn write_synced<F: Write + OpenFile + Drop>(mut file: F, bytes: &[u8]) -> bool {
+    let written = file.write_all(bytes).is_ok();
+    let synced = file.sync_all().is_ok();
+    written && synced
+}
+
+// Removes a file that was made here. Where that fails there is nothing else to do.
+fn remove(rt: &impl Files, path: &str) {
+    let _ = fs::remove_file(rt, path);
+}
+
+// Writes a file whose name is taken.
+fn save_over(
+    rt: &(impl Files + RandomSource),
+    path: &str,
+    beside: [u8; PATH_MAX],
+    bytes: &[u8],
+) -> bool {
+    if is_link(rt, path) {
+        return false;
+    }
+    let mode = mode_at(rt, path);
+    if !is_file(mode) {
+        return false;
+    }
+    replace(rt, path, beside, rights(mode), bytes)
+}
+
 // Whether a path names a link.
-fn is_link(path: [u8; PATH_MAX]) -> bool {
-    let mut ended = path;
-    ended[PATH_MAX - 1] = 0;
-    let mut target = [0u8; 1];
-    libc::readlink(&ended, &mut target) >= 0
+fn is_link(rt: &impl Files, path: &str) -> bool {
+    match fs::symlink_metadata(rt, path) {
+        Ok(metadata) => metadata.is_symlink(),
+        Err(_) => false,
+    }
 }
 
 // The mode of what a path names, if it may be written; else 0.
-fn mode_at(path: &[u8]) -> u32 {
-    let fd = os::open_update(path);
-    if fd < 0 {
-        return 0;
+fn mode_at(rt: &impl Files, path: &str) -> u32 {
+    match OpenOptions::new().read(true).write(true).open(rt, path) {
+        Ok(file) => mode_of(&file),
+        Err(_) => 0,
     }
-    let mode = mode_of(fd);
-    libc::close(fd);
-    mode
 }
 
 // Puts a new file with these rights in the place of the one at a path, which `beside` holds too.
-fn replace(path: &[u8], mut beside: [u8; PATH_MAX], rights: u32, bytes: &[u8]) -> bool {
-    let n = put_name(&mut beside, folder_len(path));
-    replace_by(path, &mut beside[..n], rights, bytes)
+fn replace(
+    rt: &(impl Files + RandomSource),
+    path: &str,
+    mut beside: [u8; PATH_MAX],
+    rights: u32,
+    bytes: &[u8],
+) -> bool {
+    let n = put_name(&mut beside, folder_len(path.as_bytes()));
+    for _ in 0..TRIES {
+        if !put_letters(rt, &mut beside[..n]) {
+            return false;
+        }
+        let Ok(name) = str::from_utf8(&beside[..n]) else {
+            return false;
+        };
+        match create(rt, name, FOR_OWNER) {
+            Ok(file) => return replace_by(rt, path, file, name, rights, bytes),
+            Err(error) if error.kind() == ErrorKind::AlreadyExists => {}
+            Err(_) => return false,
+        }
+    }
+    false
 }
 
 // The same, by way of a temporary file of this name.
-fn replace_by(path: &[u8], beside: &mut [u8], rights: u32, bytes: &[u8]) -> bool {
-    let fd = os::create_temp(beside);
-    if fd < 0 {
+fn replace_by<R: Files>(
+    rt: &R,
+    path: &str,
+    file: R::File,
+    name: &str,
+    rights: u32,
+    bytes: &[u8],
+) -> bool {
+    let allowed = file.set_permissions(Permissions::from_mode(rights)).is_ok();
+    if !write_new(rt, file, bytes, name) {
         return false;
     }
-    let allowed = libc::fchmod(fd, rights);
-    if !write_new(fd, bytes, beside) {
-        return false;
-    }
-    if allowed == 0 && os::rename(beside, path) == 0 {
+    if allowed && fs::rename(rt, name, path).is_ok() {
         return true;
     }
-    os::unlink(beside);
+    remove(rt, name);
     false
 }
 
@@ -123,4 +183,17 @@ fn put_name(buf: &mut [u8], from: usize) -> usize
         i += 1;
     }
     from + i
+}
+
+// Puts six letters at the end of a name, other ones at each call, and tells whether it could.
+fn put_letters(rt: &impl RandomSource, name: &mut [u8]) -> bool {
+    let mut random = [0u8; 6];
+    if name.len() < random.len() || rt.fill_bytes(&mut random).is_err() {
+        return false;
+    }
+    let start = name.len() - random.len();
+    for i in 0..random.len() {
+        name[start + i] = b'a' + random[i] % 26;
+    }
+    true
 }

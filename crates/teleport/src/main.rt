@@ -5,6 +5,7 @@
 
 use console::{Loaded, answer, asks, load, no_file};
 use schema::PATH_WORDS;
+use std::rt::{Env, Files};
 
 // One byte over the limit of a document (65,536), so that a longer file gives the service a text
 // over its limit, be it a document or a schema.
@@ -14,26 +15,26 @@ const TEXT: usize = 65537;
 const TABLE: usize = 16380;
 
 // `read FILE`.
-fn read() {
+fn read(rt: &(impl Env + Files + Print)) {
     let mut text = [0u8; TEXT];
-    let Loaded::Bytes(n) = load(2, &mut text) else {
-        no_file();
+    let Loaded::Bytes(n) = load(rt, 2, &mut text) else {
+        no_file(rt);
         return;
     };
     let mut table = [0u32; TABLE];
-    answer(reader::read(&text[..n], &mut table));
+    answer(rt, reader::read(&text[..n], &mut table));
 }
 
 // `check FILE FILE`: a document and a schema.
-fn check() {
+fn check(rt: &(impl Env + Files + Print)) {
     let mut document = [0u8; TEXT];
-    let Loaded::Bytes(n) = load(2, &mut document) else {
-        no_file();
+    let Loaded::Bytes(n) = load(rt, 2, &mut document) else {
+        no_file(rt);
         return;
     };
     let mut schema = [0u8; TEXT];
-    let Loaded::Bytes(m) = load(3, &mut schema) else {
-        no_file();
+    let Loaded::Bytes(m) = load(rt, 3, &mut schema) else {
+        no_file(rt);
         return;
     };
     let mut table1 = [0u32; TABLE];
@@ -48,34 +49,37 @@ fn check() {
         &mut dates,
         &mut path,
     );
-    answer(r.answer);
+    answer(rt, r.answer);
 }
 
 // `compare FILE FILE`: a new schema and an old one.
-fn compare() {
+fn compare(rt: &(impl Env + Files + Print)) {
     let mut new = [0u8; TEXT];
-    let Loaded::Bytes(n) = load(2, &mut new) else {
-        no_file();
+    let Loaded::Bytes(n) = load(rt, 2, &mut new) else {
+        no_file(rt);
         return;
     };
     let mut old = [0u8; TEXT];
-    let Loaded::Bytes(m) = load(3, &mut old) else {
-        no_file();
+    let Loaded::Bytes(m) = load(rt, 3, &mut old) else {
+        no_file(rt);
         return;
     };
     let mut table1 = [0u32; TABLE];
     let mut table2 = [0u32; TABLE];
-    answer(comparison::compare(&new[..n], &old[..m], &mut table1, &mut table2));
+    answer(
+        rt,
+        comparison::compare(&new[..n], &old[..m], &mut table1, &mut table2),
+    );
 }
 
-fn main() {
-    if asks(b"read", 3) {
-        read();
-    } else if asks(b"check", 4) {
-        check();
-    } else if asks(b"compare", 4) {
-        compare();
+fn main(rt: HostRuntime) {
+    if asks(&rt, b"read", 3) {
+        read(&rt);
+    } else if asks(&rt, b"check", 4) {
+        check(&rt);
+    } else if asks(&rt, b"compare", 4) {
+        compare(&rt);
     } else {
-        no_file();
+        no_file(&rt);
     }
 }

@@ -3,6 +3,8 @@
 #![tactic(auto)]
 
 use console::{Loaded, asks, load, no_file};
+use std::random::RandomSource;
+use std::rt::{Env, Files};
 
 // One byte over the limit of a document (65,536), so that a longer file gives the service a text over it.
 const TEXT: usize = 65537;
@@ -14,18 +16,18 @@ const TABLE: usize = 196710;
 const SCHEMA_TABLE: usize = 49224;
 
 // Loads the file, and then runs `compact` on the text.
-fn load_one() {
+fn load_one(rt: &(impl Env + Files + RandomSource + Print)) {
     let mut text = [0u8; TEXT];
-    let Loaded::Bytes(n) = load(2, &mut text) else {
-        no_file();
+    let Loaded::Bytes(n) = load(rt, 2, &mut text) else {
+        no_file(rt);
         return;
     };
     let mut table = [0u32; TABLE];
-    writing_tools::compact(&text[..n], &mut table);
+    writing_tools::compact(rt, &text[..n], &mut table);
 }
 
 // The commands that read two files.
-#[derive(Drop)]
+#[derive(Clone, Copy)]
 enum Pair {
     Counterexample,
     Dates,
@@ -34,15 +36,15 @@ enum Pair {
 
 // Loads both files, and then runs the command on the two texts. The tables are lent, so that the commands
 // share their room.
-fn load_both(command: Pair) {
+fn load_both(rt: &(impl Env + Files + RandomSource + Print), command: Pair) {
     let mut first = [0u8; TEXT];
-    let Loaded::Bytes(n) = load(2, &mut first) else {
-        no_file();
+    let Loaded::Bytes(n) = load(rt, 2, &mut first) else {
+        no_file(rt);
         return;
     };
     let mut second = [0u8; TEXT];
-    let Loaded::Bytes(m) = load(3, &mut second) else {
-        no_file();
+    let Loaded::Bytes(m) = load(rt, 3, &mut second) else {
+        no_file(rt);
         return;
     };
     let first = &first[..n];
@@ -51,45 +53,46 @@ fn load_both(command: Pair) {
     let mut table2 = [0u32; SCHEMA_TABLE];
     match command {
         Pair::Counterexample => writing_tools::counterexample(
+            rt,
             first,
             second,
             &mut table1,
             &mut table2,
         ),
-        Pair::Dates => tools::dates(first, second, &mut table1, &mut table2),
-        Pair::Explain => tools::explain(first, second, &mut table1, &mut table2),
+        Pair::Dates => tools::dates(rt, first, second, &mut table1, &mut table2),
+        Pair::Explain => tools::explain(rt, first, second, &mut table1, &mut table2),
     }
 }
 
 // What the arguments ask for.
-#[derive(Drop)]
+#[derive(Clone, Copy)]
 enum Command {
     Compact,
     Two(Pair),
     Nothing,
 }
 
-fn asked() -> Command {
-    if asks(b"compact", 4) {
+fn asked(rt: &impl Env) -> Command {
+    if asks(rt, b"compact", 4) {
         return Command::Compact;
     }
-    if asks(b"counterexample", 5) {
+    if asks(rt, b"counterexample", 5) {
         return Command::Two(Pair::Counterexample);
     }
-    if asks(b"dates", 4) {
+    if asks(rt, b"dates", 4) {
         return Command::Two(Pair::Dates);
     }
-    if asks(b"explain", 4) {
+    if asks(rt, b"explain", 4) {
         return Command::Two(Pair::Explain);
     }
     Command::Nothing
 }
 
 // Each command is called in one place, so that the compiler lets them share one frame.
-fn main() {
-    match asked() {
-        Command::Compact => load_one(),
-        Command::Two(command) => load_both(command),
-        Command::Nothing => no_file(),
+fn main(rt: HostRuntime) {
+    match asked(&rt) {
+        Command::Compact => load_one(&rt),
+        Command::Two(command) => load_both(&rt, command),
+        Command::Nothing => no_file(&rt),
     }
 }

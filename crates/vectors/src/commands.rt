@@ -13,36 +13,30 @@ const TABLE: usize = 16380;
 // The most words of a table that is written.
 const WORDS: usize = 80;
 
-pub fn run(line: &[u8]) -> bool {
+pub fn run(rt: &impl Print, line: &[u8]) -> bool {
     let tab = find(line, 0, b'\t');
     if tab == line.len() {
         return false;
     }
     let name = &line[0..tab];
     let fields = &line[tab + 1..];
-    if check::same(name, b"read") {
-        return read(fields);
+    match name {
+        b"read" => read(rt, fields),
+        b"rows" => rows(rt, fields),
+        b"check" => check(rt, fields),
+        b"compare" => compare(rt, fields),
+        _ => false,
     }
-    if check::same(name, b"rows") {
-        return rows(fields);
-    }
-    if check::same(name, b"check") {
-        return check(fields);
-    }
-    if check::same(name, b"compare") {
-        return compare(fields);
-    }
-    false
 }
 
 // `read TEXT`.
-fn read(field: &[u8]) -> bool {
+fn read(rt: &impl Print, field: &[u8]) -> bool {
     let mut table = [0u32; TABLE];
-    read_into(field, &mut table)
+    read_into(rt, field, &mut table)
 }
 
 // `rows N TEXT`.
-fn rows(fields: &[u8]) -> bool {
+fn rows(rt: &impl Print, fields: &[u8]) -> bool {
     let tab = find(fields, 0, b'\t');
     if tab == fields.len() {
         return false;
@@ -53,26 +47,26 @@ fn rows(fields: &[u8]) -> bool {
     }
     let mut words = [7u32; WORDS];
     let table = &mut words[0..count];
-    if !read_into(&fields[tab + 1..], table) {
+    if !read_into(rt, &fields[tab + 1..], table) {
         return false;
     }
-    lines::words(table);
+    lines::words(rt, table);
     true
 }
 
-fn read_into(field: &[u8], table: &mut [u32]) -> bool {
+fn read_into(rt: &impl Print, field: &[u8], table: &mut [u32]) -> bool {
     let mut text = [0u8; TEXT];
     let decoded = decode(field, &mut text);
     if !decoded.good {
         return false;
     }
     let n = decoded.len;
-    lines::answer(reader::read(&text[..n], table));
+    lines::answer(rt, reader::read(&text[..n], table));
     true
 }
 
 // `check DOCUMENT SCHEMA`.
-fn check(fields: &[u8]) -> bool {
+fn check(rt: &impl Print, fields: &[u8]) -> bool {
     let tab = find(fields, 0, b'\t');
     if tab == fields.len() {
         return false;
@@ -101,12 +95,12 @@ fn check(fields: &[u8]) -> bool {
         &mut dates,
         &mut path,
     );
-    lines::answer(r.answer);
+    lines::answer(rt, r.answer);
     true
 }
 
 // `compare NEW OLD`.
-fn compare(fields: &[u8]) -> bool {
+fn compare(rt: &impl Print, fields: &[u8]) -> bool {
     let tab = find(fields, 0, b'\t');
     if tab == fields.len() {
         return false;
@@ -125,6 +119,9 @@ fn compare(fields: &[u8]) -> bool {
     let m = second.len;
     let mut table1 = [0u32; TABLE];
     let mut table2 = [0u32; TABLE];
-    lines::answer(comparison::compare(&new[..n], &old[..m], &mut table1, &mut table2));
+    lines::answer(
+        rt,
+        comparison::compare(&new[..n], &old[..m], &mut table1, &mut table2),
+    );
     true
 }

@@ -1,6 +1,6 @@
 // The fields of a line, and the texts that they spell.
 ghost use Rattle.std.specs.Prelude.{◌≤◌, ◌<◌, length};
-ghost use Rattle.io.specs.Counts.{IsPrefixLen};
+ghost use Rattle.vectors.specs.Counts.{IsPrefixLen};
 
 // Where the byte first stands from index `from` on, or the length where it does not.
 pub fn find(s: &[u8], from: usize, byte: u8) -> usize
@@ -46,7 +46,7 @@ fn hex(b: u8) -> u8 {
 }
 
 // Whether a field spells a text that fits, and how many bytes the text has.
-#[derive(Drop)]
+#[derive(Clone, Copy)]
 pub struct Decoded {
     pub good: bool,
     pub len: usize,
@@ -86,7 +86,7 @@ fn fill(out: &mut [u8], byte: u8) {
 }
 
 // A byte, how often it stands in the text, and how many bytes of the field spell that.
-#[derive(Drop)]
+#[derive(Clone, Copy)]
 struct Piece {
     good: bool,
     byte: u8,

@@ -1,24 +1,32 @@
 // The parts of an answer.
-use libc::STDOUT_FILENO;
 use syntax::Answer;
 
 // 01: "the four numbers in decimal on one line, a space between".
-pub fn answer(a: Answer) {
-    io::print_decimal(STDOUT_FILENO, a.code as u64);
-    word(a.text);
-    word(a.place);
-    word(a.other);
+pub fn answer(rt: &impl Print, a: Answer) {
+    put_decimal(rt, a.code);
+    word(rt, a.text);
+    word(rt, a.place);
+    word(rt, a.other);
 }
 
 // The words of a table, behind its answer.
-pub fn words(table: &[u32]) {
-    io::write_all(STDOUT_FILENO, b" |");
-    for i in 0..table.len() {
-        word(table[i]);
+pub fn words(rt: &impl Print, table: &[u32]) {
+    put(rt, b" |");
+    for n in table {
+        word(rt, *n);
     }
 }
 
-fn word(n: u32) {
-    io::write_all(STDOUT_FILENO, b" ");
-    io::print_decimal(STDOUT_FILENO, n as u64);
+// Prints bytes. Where the output takes none, it differs from the file stdout, which tells it.
+pub fn put(rt: &impl Print, bytes: &[u8]) {
+    let _ = rt.write_all(bytes);
+}
+
+fn put_decimal(rt: &impl Print, n: u32) {
+    let _ = rt.print(n);
+}
+
+fn word(rt: &impl Print, n: u32) {
+    put(rt, b" ");
+    put_decimal(rt, n);
 }

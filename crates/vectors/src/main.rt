@@ -17,38 +17,60 @@
 // of this form gives `bad line` for its answer.
 #![tactic(auto)]
 
+ghost use Rattle.vectors.specs.Counts.{IsPrefixLen};
+
 mod commands;
 mod fields;
 mod lines;
 
 use fields::find;
-use libc::{STDIN_FILENO, STDOUT_FILENO};
+use lines::put;
+use std::io::{Input, Read};
+
+const INPUT: usize = 65536;
 
 // The input is its first 65,536 bytes. What lies behind them is not read: a line is cut there and
 // the later ones are not answered, so that the output differs from the file stdout.
-fn main() {
-    let mut input = io::large_buffer();
-    let n = io::read_full(STDIN_FILENO, &mut input);
-    each_line(&input[..n]);
+fn main(rt: HostRuntime) {
+    let mut input = [0u8; INPUT];
+    let n = read_full(&mut rt.reader(), &mut input);
+    each_line(&rt, &input[..n]);
+}
+
+// Reads until buf is full, the input ends or a read fails, and tells how many bytes are at the start of buf.
+fn read_full(input: &mut impl Read, buf: &mut [u8]) -> usize
+    ensures { IsPrefixLen result buf.new }
+{
+    let mut n = 0;
+    while n < buf.len() {
+        let Ok(more) = input.read(&mut buf[n..]) else {
+            break;
+        };
+        if more == 0 {
+            break;
+        }
+        n += more;
+    }
+    n
 }
 
 // A newline ends a line, and so does the end of the input.
-fn each_line(input: &[u8]) {
+fn each_line(rt: &impl Print, input: &[u8]) {
     let mut from = 0;
     while from < input.len() {
         let to = find(input, from, b'\n');
-        run(&input[from..to]);
+        run(rt, &input[from..to]);
         from = to + 1;
     }
 }
 
-fn run(line: &[u8]) {
+fn run(rt: &impl Print, line: &[u8]) {
     if line.len() > 0 && line[0] != b'#' {
-        if !commands::run(line) {
-            io::write_all(STDOUT_FILENO, b"bad line");
+        if !commands::run(rt, line) {
+            put(rt, b"bad line");
         }
-        io::write_all(STDOUT_FILENO, b"\t");
+        put(rt, b"\t");
     }
-    io::write_all(STDOUT_FILENO, line);
-    io::write_all(STDOUT_FILENO, b"\n");
+    put(rt, line);
+    put(rt, b"\n");
 }
