@@ -10,7 +10,7 @@ use Rattle.chars.specs.Bytes.{byte_at}
 use Rattle.tokens.specs.Parse.{Parse, refused, parsed, then, unexpected}
 use Rattle.tokens.specs.Space.{is_space, skip}
 use Rattle.chars.proofs.Facts.{run-from, run_within}
-use Rattle.syntax.specs.Tree.{Node, object, none}
+use Rattle.syntax.specs.Tree.{Node}
 use Rattle.syntax.specs.Rows.{Entry, entry, size, entries}
 use Rattle.syntax.specs.Grammar.{items_at, list_at}
 use Rattle.marks.specs.Marks.{list_mark, is_name, mark_entry, mark_entries}

@@ -11,7 +11,7 @@ use Rattle.syntax.specs.Rows.{count_members, size}
 use Rattle.syntax.specs.Holding.{word, Row, HoldsMembers, PlacedMembers}
 use Rattle.rows.specs.Records.{InTable, Reads, Rowed, ObjectRow}
 use Rattle.rows.specs.declared.records.Record.{Record}
-use Rattle.rows.proofs.records.Trees.{row_of, row_in, in_table}
+use Rattle.rows.proofs.records.Trees.{row_of, row_in}
 
 -- ---- from name to name
 

@@ -1,7 +1,7 @@
 -- `first_shared` meets its contract. The outer loop's invariant (`Comparing`): no name before row `row` is shared; the inner one's (`Searching`):
 -- no member before row `other` has the name. The measures are how many are left. Behind the loops, a member that is left has the shared name.
 use Rattle.chars.specs.Strings.{characters}
-use Rattle.definitions.proofs.definitions.Sharing.{Searching, other, Comparing}
+use Rattle.definitions.proofs.definitions.Sharing.{Searching, Comparing}
 use Rattle.definitions.proofs.definitions.first_shared.Given as goal
 
 abbrev pub invariant-loop-unseen : goal.invariant-loop-unseen

@@ -1,10 +1,9 @@
 -- `explain::pieces::put_utf8` meets its contract: the bytes that were written are put.
-use mathlib.Core.Path.{◌≡◌, sym}
+use mathlib.Core.Path.{sym}
 use Prim.Native.Nat.{◌≤◌}
 use lib.ListN.{length}
 use native.Mathlib.Omega.{arith}
 use lib.Seq.{length-take-le}
-use borrow.Author.Rules.{rules}
 use Rattle.explain.proofs.pieces.Buffers.{puts_as}
 use Rattle.explain.proofs.pieces.Characters.{utf8_short, utf8_written}
 use Rattle.explain.proofs.pieces.put_utf8.Goals as goal

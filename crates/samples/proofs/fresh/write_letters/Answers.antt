@@ -1,11 +1,11 @@
 use Prim.Native.Nat.{◌+◌}
 use mathlib.Core.Path.{refl, sym, ◌∙◌}
-use lib.ListN.{set, length-set}
+use lib.ListN.{length-set}
 use lib.Seq.{length-take-le}
 use native.Mathlib.Omega.{arith}
 use mir.Syntax.{w64}
 use mir.Val.{Fits}
-use Rattle.samples.proofs.fresh.Laws.{Lettering, letters_start, letters_same, letters_in, letters_end, letters_more}
+use Rattle.samples.proofs.fresh.Laws.{letters_start, letters_same, letters_in, letters_end, letters_more}
 use Rattle.samples.proofs.fresh.Laws.{letters_room, one_at, one_in, two-at, two_in, letter_a, letter_b}
 use Rattle.samples.proofs.fresh.write_letters.Goals as goal
 use Rattle.samples.proofs.fresh.write_letters.Goals.{then-count_names-other, else-count_names-other}

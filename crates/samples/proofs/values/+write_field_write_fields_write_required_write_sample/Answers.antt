@@ -3,7 +3,6 @@ use mathlib.Core.Path.{◌≡◌}
 use mathlib.Core.Bool.{true}
 use mathlib.Core.List.{List}
 use native.Mathlib.Omega.{arith}
-use Rattle.model.specs.Text.{text}
 use Rattle.chars.specs.Strings.{characters}
 use Rattle.syntax.specs.Grammar.{name_of}
 use Rattle.syntax.specs.Holding.{word}

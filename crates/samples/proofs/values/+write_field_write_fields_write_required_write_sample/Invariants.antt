@@ -1,7 +1,6 @@
 -- The writers of samples meet their contracts. The measure is three times the rows of the definition, with up to two more by the order of the calls;
 -- fields that are absent, at row 0, count none. The loop's invariant is `InFields`. Below each member's name stands what is known at its places.
 use Prim.Native.Nat.{◌+◌, ◌*◌}
-use Rattle.model.specs.Text.{text}
 use Rattle.chars.specs.Strings.{characters}
 use Rattle.syntax.specs.Holding.{word}
 use Rattle.definitions.proofs.Facts.{part_rows}

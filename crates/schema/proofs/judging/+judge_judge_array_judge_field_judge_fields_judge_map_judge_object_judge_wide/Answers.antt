@@ -16,7 +16,6 @@ use Rattle.schema.proofs.judging.Fields.{InBody, object_other, object_start, req
 use Rattle.schema.proofs.judging.Fields.{no_fields, fields_begin, fields_judged, field_judgeable, field_fails, field_next, wide_start}
 use Rattle.schema.proofs.judging.Fields.{wide_sought, wide_next, wide_end, field_value, field_found, field_missing, field_skipped, optional_ends}
 use Rattle.schema.proofs.judging.Fields.{field_rows, sought_field}
-use borrow.Enum.Refused.{opened}
 use Rattle.schema.proofs.judging.+judge_judge_array_judge_field_judge_fields_judge_map_judge_object_judge_wide.Goals as goal
 
 -- ---- judge
