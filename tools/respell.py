@@ -53,11 +53,11 @@ def declared():
     """Each declared name, and whether a declaration of it stands inside another's block."""
     names = {}
     for path in walk("crates", (".antt",)):
-        if os.path.basename(path) in ("Proof.antt", "Answers.antt", "Invariants.antt"):
+        if os.path.basename(path) == "Proof.antt":
             continue
         for line in read(path).splitlines():
             m = DECLARES.match(line)
-            if m and not GENERATED.match(m.group("name")):
+            if m and not GENERATED.match(m.group("name")) and " : goal." not in line:
                 names[m.group("name")] = names.get(m.group("name"), False) or line[0] == " "
     return names
 

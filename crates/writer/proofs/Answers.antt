@@ -29,10 +29,10 @@ pub record Compacted (w b : ℕ) (s : List ℕ) : Type 0 where
   pub fits : length (spelled s node) ≤ b
 
 module _ (w b : ℕ) (s : List ℕ) where
-  by-outcome : (o : Parse Node) → read_within document_limits s ≡ o → (answer_by w b s o).code ≡ 0 → Compacted w b s
+  by_outcome : (o : Parse Node) → read_within document_limits s ≡ o → (answer_by w b s o).code ≡ 0 → Compacted w b s
   unfolding answer_by answer_of
-  by-outcome (refused c p) q h = absurd (omega (arith, read_code 65536 32 s c p q))
-  by-outcome (parsed n e) q h =
+  by_outcome (refused c p) q h = absurd (omega (arith, read_code 65536 32 s c p q))
+  by_outcome (parsed n e) q h =
       let P : Answer → Type 0 = λ a. a.code ≡ 0 → Compacted w b s in
       both P (leb (size n) (rows_in w))
       (λ r. both P (leb (length (spelled s n)) b) (λ f _. record { node = n; end = e; reads = q; rows = leb-true _ _ r; fits = leb-true _ _ f })
@@ -40,24 +40,24 @@ module _ (w b : ℕ) (s : List ℕ) where
       (λ r z. let z : ◌≡◌ {A = ℕ} 8 0 = rw r at z in absurd (omega arith)) h
 
   pub compacted : (compact_answer w b s).code ≡ 0 → Compacted w b s
-  compacted = by-outcome (read_within document_limits s) refl
+  compacted = by_outcome (read_within document_limits s) refl
 
-  pub compacted-answer : (c : Compacted w b s) → compact_answer w b s ≡ answer 0 0 0 (length (spelled s c.node))
+  pub compacted_answer : (c : Compacted w b s) → compact_answer w b s ≡ answer 0 0 0 (length (spelled s c.node))
   unfolding answer_by
-  compacted-answer c = rw (c.reads, le-leb _ _ c.rows, le-leb _ _ c.fits)
+  compacted_answer c = rw (c.reads, le-leb _ _ c.rows, le-leb _ _ c.fits)
 
   -- with 0, the length that is given lies within the buffer
-  pub compact-fits : (compact_answer w b s).code ≡ 0 → (compact_answer w b s).other ≤ b
-  compact-fits h = let c = compacted h in rw (compacted-answer c) c.fits
+  pub compact_fits : (compact_answer w b s).code ≡ 0 → (compact_answer w b s).other ≤ b
+  compact_fits h = let c = compacted h in rw (compacted_answer c) c.fits
 
 module _ (w : ℕ) (buffer s : List ℕ) (c : Compacted w (length buffer) s) where
-  pub compacted-buffer : compact_buffer w buffer s ≡ over (spelled s c.node) buffer
+  pub compacted_buffer : compact_buffer w buffer s ≡ over (spelled s c.node) buffer
   unfolding buffer_by
-  compacted-buffer = rw (c.reads, le-leb _ _ c.rows, le-leb _ _ c.fits)
+  compacted_buffer = rw (c.reads, le-leb _ _ c.rows, le-leb _ _ c.fits)
 
   -- the buffer keeps its length
-  pub compacted-length : length (compact_buffer w buffer s) ≡ length buffer
-  compacted-length = rw compacted-buffer (simp (length-append, length-drop) (let f = c.fits in omega arith))
+  pub compacted_length : length (compact_buffer w buffer s) ≡ length buffer
+  compacted_length = rw compacted_buffer (simp (length-append, length-drop) (let f = c.fits in omega arith))
 
 -- no buffer is too short that has room for the spelling
 pub no_short : (w b : ℕ) (s : List ℕ) → ((n : Node) (e : ℕ) → read_within document_limits s ≡ parsed n e → length (spelled s n) ≤ b)
@@ -78,39 +78,39 @@ module _ (out w : List ℕ) {n : ℕ} (e : n ≡ length w) where
   has_room : n ≤ length out → (answer 0 0 0 n ≡ written_answer (length out) w) × (over w out ≡ written_buffer out w)
   has_room l = rw (e, le-leb (length w) (length out) (omega arith)) (refl, refl)
 
-  has-none : length out < n → (answer 60 0 0 n ≡ written_answer (length out) w) × (out ≡ written_buffer out w)
-  has-none l = rw (e, lt-leb (length w) (length out) (omega arith)) (refl, refl)
+  has_none : length out < n → (answer 60 0 0 n ≡ written_answer (length out) w) × (out ≡ written_buffer out w)
+  has_none l = rw (e, lt-leb (length w) (length out) (omega arith)) (refl, refl)
 
 -- a text of tokens: n bytes are written for it, and there is room for them or not
 module _ {s : List ℕ} {m : ℕ} (t : Writable s m) {n : ℕ} where
-  pub measured-most : Measures s n → n ≤ m
-  measured-most h = omega (arith, h t.bytes t.tokens, t.fits)
+  pub measured_most : Measures s n → n ≤ m
+  measured_most h = omega (arith, h t.bytes t.tokens, t.fits)
 
-  pub measured-fits : Measures s n → {k : ℕ} → n ≤ k → Writable s k
-  measured-fits h l = record { bytes = t.bytes; tokens = t.tokens; fits = omega (arith, h t.bytes t.tokens) }
+  pub measured_fits : Measures s n → {k : ℕ} → n ≤ k → Writable s k
+  measured_fits h l = record { bytes = t.bytes; tokens = t.tokens; fits = omega (arith, h t.bytes t.tokens) }
 
   module _ {out o : List ℕ} (h : Writes s n out o) where
-    pub written-short : n ≤ length s
-    written-short = omega (arith, (h t.bytes t.tokens).0, tokens_short s t.tokens (omega arith))
+    pub written_short : n ≤ length s
+    written_short = omega (arith, (h t.bytes t.tokens).0, tokens_short s t.tokens (omega arith))
 
-    pub written-whole : {a : Answer} → a ≡ answer 0 0 0 n → m ≡ length out → Answers s a out o
-    written-whole e z w k =
+    pub written_whole : {a : Answer} → a ≡ answer 0 0 0 n → m ≡ length out → Answers s a out o
+    written_whole e z w k =
         let x = h w k in
         let r = has_room out w x.0 (omega (arith, t.fits, x.0, ap length (tokens_one k t.tokens))) in
         (e ∙ r.0, x.1 ∙ r.1)
 
-pub measured-none : {s out : List ℕ} {n : ℕ} → Measures s n → length out < n → {a : Answer} → a ≡ answer 60 0 0 n → Answers s a out out
-measured-none {s} {out} h l e w k = let r = has-none out w (h w k) l in (e ∙ r.0, r.1)
+pub measured_none : {s out : List ℕ} {n : ℕ} → Measures s n → length out < n → {a : Answer} → a ≡ answer 60 0 0 n → Answers s a out out
+measured_none {s} {out} h l e w k = let r = has_none out w (h w k) l in (e ∙ r.0, r.1)
 
 -- ---- by the answer of Read
 
 module _ (t : ℕ) (s : List ℕ) where
   -- a refusal stays as it is
-  pub refused-stays : (o : Parse Node) → ((answer_of 1 t o).code ≡ 0 → ⊥)
+  pub refused_stays : (o : Parse Node) → ((answer_of 1 t o).code ≡ 0 → ⊥)
       → ((b : ℕ) → answer_of 1 t o ≡ answer_by t b s o) × ((buffer : List ℕ) → buffer ≡ buffer_by t buffer s o)
   unfolding answer_by buffer_by answer_of
-  refused-stays (refused c p) n = (λ b. refl, λ buffer. refl)
-  refused-stays (parsed m e) n =
+  refused_stays (refused c p) n = (λ b. refl, λ buffer. refl)
+  refused_stays (parsed m e) n =
       by_test (leb (size m) (rows_in t)) (λ r. absurd (n (rw r))) (λ r. (λ b. rw r, λ buffer. rw r))
 
   -- a text that was read: its tokens, and what is said of the bytes that are written for them
@@ -140,9 +140,9 @@ module _ (t : ℕ) (s : List ℕ) where
   read_ready r l = (record { bytes = r.bytes; tokens = r.tokens; fits = omega (arith, tokens_short s r.tokens (omega arith)) }, r.short)
 
   -- and Compact answers what was written for it
-  pub read-answers : Read → {a : Answer} (out : List ℕ) {o : List ℕ} → Answers s a out o → {u v : List ℕ} → u ≡ v
+  pub read_answers : Read → {a : Answer} (out : List ℕ) {o : List ℕ} → Answers s a out o → {u v : List ℕ} → u ≡ v
       → (a ≡ compact_answer t (length out) s) × ((u ≡ v) × (o ≡ compact_buffer t out s))
-  read-answers r out h rows = let e = h r.bytes r.tokens in (e.0 ∙ r.answers (length out), (rows, e.1 ∙ r.buffers out))
+  read_answers r out h rows = let e = h r.bytes r.tokens in (e.0 ∙ r.answers (length out), (rows, e.1 ∙ r.buffers out))
 
   pub read_done : (answer_of 1 t (read_within document_limits s)).code ≡ 0 → Read
   read_done = done (read_within document_limits s) refl

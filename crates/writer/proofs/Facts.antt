@@ -7,4 +7,4 @@ pub use Rattle.writer.proofs.Tokens.{string-end}
 pub use Rattle.writer.proofs.Stretches.{chars_fit}
 -- the depth of a text, and the length that Compact tells
 pub use Rattle.writer.proofs.Depths.{text_depth}
-pub use Rattle.writer.proofs.Answers.{compact-fits}
+pub use Rattle.writer.proofs.Answers.{compact_fits}

@@ -21,7 +21,7 @@ use Rattle.writer.specs.Depth.{depth_of}
 use Rattle.writer.specs.Compact.{spelled, over, compact_answer, compact_buffer}
 use Rattle.writer.proofs.Depths.{text_depth}
 use Rattle.writer.proofs.Sizes.{same_size}
-use Rattle.writer.proofs.Answers.{no_short, Compacted, compacted, compacted-answer, compacted-buffer, compacted-length}
+use Rattle.writer.proofs.Answers.{no_short, Compacted, compacted, compacted_answer, compacted_buffer, compacted_length}
 -- the spelling of a JSON value is a text of the written grammar that spells this value, with no more brackets open than the value is deep
 pub use Rattle.writer.proofs.Spelled.{spell_text}
 -- what is written for a text is never longer than the text
@@ -60,7 +60,7 @@ compact_writes w buffer s h n e q =
     let c = compacted w (length buffer) s h in
     let z : parsed n e ≡ parsed c.node c.end = sym q ∙ c.reads in
     let y : n ≡ c.node = cc in
-    rw (compacted-answer w (length buffer) s c, compacted-buffer w buffer s c, y) (take-append_seam _ _)
+    rw (compacted_answer w (length buffer) s c, compacted_buffer w buffer s c, y) (take-append_seam _ _)
 
 -- "Two documents that it writes come out equal exactly when they are the same JSON value as 01 has it, members in the same order."
 pub compact_same : (w x : ℕ) (b c s t : List ℕ) → (compact_answer w (length b) s).code ≡ 0 → (compact_answer x (length c) t).code ≡ 0
@@ -110,10 +110,10 @@ compact_again w buffer s h =
       end = x.1;
       reads = x.2;
       rows = omega arith;
-      fits = omega (arith, ap length again, compacted-length w buffer s c);
+      fits = omega (arith, ap length again, compacted_length w buffer s c);
     } in
-    let same : compact_buffer w buffer s ≡ over t buffer = compacted-buffer w buffer s c in
+    let same : compact_buffer w buffer s ≡ over t buffer = compacted_buffer w buffer s c in
     rw (compact_writes w buffer s h n c.end c.reads) (
-      compacted-answer w (length out) t d ∙ ap (λ (u : List ℕ). answer 0 0 0 (length u)) again ∙ sym (compacted-answer w (length buffer) s c),
-      compacted-buffer w out t d ∙ ap (λ (u : List ℕ). over u out) again ∙ ap (over t) same ∙ over_again t buffer ∙ sym same,
+      compacted_answer w (length out) t d ∙ ap (λ (u : List ℕ). answer 0 0 0 (length u)) again ∙ sym (compacted_answer w (length buffer) s c),
+      compacted_buffer w out t d ∙ ap (λ (u : List ℕ). over u out) again ∙ ap (over t) same ∙ over_again t buffer ∙ sym same,
     )

@@ -3,7 +3,7 @@ use Rattle.std.proofs.Common.{ℕ, ◌≤◌, ◌≡◌, List}
 use mathlib.Core.Path.{sym, ap, ◌∙◌}
 use Rattle.syntax.specs.declared.answers.Answer.{Answer}
 use Rattle.writer.specs.Compact.{compact_answer}
-use Rattle.writer.proofs.Facts.{compact-fits}
+use Rattle.writer.proofs.Facts.{compact_fits}
 
 pub compact_most : (r : Answer) (w b : ℕ) (s : List ℕ) → r ≡ compact_answer w b s → r.code ≡ 0 → r.other ≤ b
-compact_most r w b s e z = rw e (compact-fits w b s (sym (ap (λ (a : Answer). a.code) e) ∙ z))
+compact_most r w b s e z = rw e (compact_fits w b s (sym (ap (λ (a : Answer). a.code) e) ∙ z))
