@@ -192,7 +192,10 @@ def name_cases(folder):
     (folder.path / "link").symlink_to(file)
     for name in ["a b", "read", "-", "--", "new\nline", b"\xff", "ü.json"]:
         folder.write(name, BROKEN)
-    names = ["a b", "read", "-", "--", "new\nline", b"\xff", "ü.json", "link", "./" + file, str(folder.path / file)]
+    # a name that is not UTF-8 opens no file
+    for words in [["read", b"\xff"], ["check", b"\xff", folder.file(JSON)], ["compare", folder.file(JSON), b"\xff"]]:
+        yield words, NO_FILE
+    names = ["a b", "read", "-", "--", "new\nline", "ü.json", "link", "./" + file, str(folder.path / file)]
     for name in names + [padded_name(file, longest - 1), padded_name(file, longest)]:
         yield ["read", name], "3 1 3 0"
         yield ["check", name, folder.file(JSON)], "3 1 3 0"
