@@ -23,8 +23,8 @@ const FOR_ALL: u32 = 0o666;
 
 const FOR_OWNER: u32 = 0o600;
 
-// How many names are tried for a temporary file.
-const TRIES: usize = 100;
+// How many names are tried for a temporary file: as many as the C library's `mkstemp` tries, 62 to the third.
+const TRIES: usize = 238_328;
 
 // Writes the file that argument i names, and tells whether it could.
 pub fn save(rt: &(impl Env + Files + RandomSource), i: usize, bytes: &[u8]) -> bool {
@@ -117,8 +117,8 @@ fn replace(
     bytes: &[u8],
 ) -> bool {
     let n = put_name(&mut beside, folder_len(path.as_bytes()));
-    for _ in 0..TRIES {
-        if !put_letters(rt, &mut beside[..n]) {
+    for i in 0..TRIES {
+        if !put_letters(rt, i, &mut beside[..n]) {
             return false;
         }
         let Ok(name) = str::from_utf8(&beside[..n]) else {
@@ -185,15 +185,19 @@ fn put_name(buf: &mut [u8], from: usize) -> usize
     from + i
 }
 
-// Puts six letters at the end of a name, other ones at each call, and tells whether it could.
-fn put_letters(rt: &impl RandomSource, name: &mut [u8]) -> bool {
+// Puts six letters at the end of a name, other ones for each try, and tells whether there is room. Where the system has no random bytes, they go by the
+// number of the try alone.
+fn put_letters(rt: &impl RandomSource, tried: usize, name: &mut [u8]) -> bool {
     let mut random = [0u8; 6];
-    if name.len() < random.len() || rt.fill_bytes(&mut random).is_err() {
+    if name.len() < random.len() {
         return false;
     }
+    let _ = rt.fill_bytes(&mut random);
     let start = name.len() - random.len();
+    let mut rest = tried;
     for i in 0..random.len() {
-        name[start + i] = b'a' + random[i] % 26;
+        name[start + i] = b'a' + ((random[i] as usize + rest % 26) % 26) as u8;
+        rest /= 26;
     }
     true
 }
