@@ -229,7 +229,8 @@ failing_wide-overflow_add-row t c = omega (arith, (fields_in_lem c.requires.fiel
 
 pub failing_wide-loop-i-init : goal.failing_wide-loop-i-init
 failing_wide-loop-i-init t c =
-    wide_start c.requires.fields_pairing c.requires.fields_nonzero.0 c.row_at-count.ensures.children (omega (arith, c.requires.fields_nonzero.1.few)) c.match_under.ensures
+    wide_start c.requires.fields_pairing c.requires.fields_nonzero.0 c.row_at-count.ensures.children
+    (omega (arith, c.requires.fields_nonzero.1.few)) c.match_under.ensures
 
 pub failing_wide-offset_bounds-values-i : goal.failing_wide-offset_bounds-values-i
 failing_wide-offset_bounds-values-i t c = omega (arith, c.loop-i.invariant.few)
@@ -246,7 +247,8 @@ failing_wide-carried_found-requires t c =
 
 pub failing_wide-returns-then-not-carried_found : goal.failing_wide-returns-then-not-carried_found
 failing_wide-returns-then-not-carried_found t c =
-    field_fails c.loop-i.invariant.ahead (wide_some c.loop-i.invariant c.loop-i-test.true) c.carried_found.ensures (not-true _ (rw c.if-not-carried_found.true))
+    field_fails c.loop-i.invariant.ahead (wide_some c.loop-i.invariant c.loop-i-test.true) c.carried_found.ensures
+    (not-true _ (rw c.if-not-carried_found.true))
 
 pub failing_wide-overflow_add-row-in-loop-i : goal.failing_wide-overflow_add-row-in-loop-i
 failing_wide-overflow_add-row-in-loop-i t c =

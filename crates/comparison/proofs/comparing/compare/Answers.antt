@@ -5,13 +5,15 @@ use Rattle.comparison.proofs.comparing.compare.Goals as goal
 
 pub returns-then-first-ne0 : goal.returns-then-first-ne0
 returns-then-first-ne0 c =
-    let w = new_refused c.args.new.now c.args.old.now c.args.table1.now c.args.table2.now c.accept-first.ensures.answers c.accept-first.ensures.rows c.if-first-ne0.true in record { compares = w.0; rows1 = w.1.0; rows2 = w.1.1 }
+    let w = new_refused c.args.new.now c.args.old.now c.args.table1.now c.args.table2.now c.accept-first.ensures.answers
+    c.accept-first.ensures.rows c.if-first-ne0.true in record { compares = w.0; rows1 = w.1.0; rows2 = w.1.1 }
 
 pub returns-then-second-ne0 : goal.returns-then-second-ne0
 returns-then-second-ne0 c =
     let first : NewAccepted c.args.new.now c.args.table1.now c.accept-first.new.table =
     new_accepted c.args.new.now c.args.table1.now c.accept-first.ensures.answers c.accept-first.ensures.rows c.if-first-ne0.false in
-    let w = old_refused c.args.old.now c.args.table2.now first c.accept-second.ensures.answers c.accept-second.ensures.rows c.if-second-ne0.true in record { compares = w.0; rows1 = w.1.0; rows2 = w.1.1 }
+    let w = old_refused c.args.old.now c.args.table2.now first c.accept-second.ensures.answers c.accept-second.ensures.rows c.if-second-ne0.true
+    in record { compares = w.0; rows1 = w.1.0; rows2 = w.1.1 }
 
 pub carried-requires : goal.carried-requires
 carried-requires c =

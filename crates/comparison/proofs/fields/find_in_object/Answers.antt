@@ -32,5 +32,6 @@ find_field-requires c = optional_fields c.requires.generic_row (find_optional c.
 
 pub returns : goal.returns
 returns c =
-    let none = in_optional c.requires.generic_row (find_required c.find.ensures) c.find_field-found.ensures c.if-found-gt0.false c.if-required.false in
+    let none = in_optional c.requires.generic_row (find_required c.find.ensures) c.find_field-found.ensures c.if-found-gt0.false
+    c.if-required.false in
     none (find_optional c.find-2.ensures) c.find_field.ensures

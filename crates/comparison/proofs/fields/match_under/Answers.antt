@@ -26,7 +26,8 @@ match_fields-requires c =
 
 pub returns-then-required : goal.returns-then-required
 returns-then-required c =
-    under_required c.requires.defined_row.1 c.requires.part_bound.0 (find_required c.find-first.ensures) (rw c.requires.part_bound.1 at c.match_fields.ensures) c.if-required.true
+    under_required c.requires.defined_row.1 c.requires.part_bound.0 (find_required c.find-first.ensures)
+    (rw c.requires.part_bound.1 at c.match_fields.ensures) c.if-required.true
 
 pub overflow_add-row-2 : goal.overflow_add-row-2
 overflow_add-row-2 c = omega (arith, (body_in c.requires.defined_row.1 c.requires.defined_row.0).here)
@@ -46,5 +47,6 @@ match_fields-requires-2 c =
 
 pub returns : goal.returns
 returns c =
-    under_any c.requires.defined_row.1 c.requires.part_bound.0 (find_required c.find-first.ensures) (rw c.requires.part_bound.1 at c.match_fields.ensures)
+    under_any c.requires.defined_row.1 c.requires.part_bound.0 (find_required c.find-first.ensures)
+    (rw c.requires.part_bound.1 at c.match_fields.ensures)
     c.if-required.false (find_optional c.find-second.ensures) c.match_fields-2.ensures

@@ -18,10 +18,12 @@ pub returns-then-fault-ne0 : goal.returns-then-fault-ne0
 returns-then-fault-ne0 c =
     let schema_read : SchemaRead c.args.which c.args.schema.now c.args.table.now c.read_within-read.result c.read_within-read.new.table =
     record { answers = rw c.schema.ensures at c.read_within-read.ensures.answers; rows = rw c.schema.ensures at c.read_within-read.ensures.rows } in
-    let w = accept_faulty schema_read c.if-read-ne0.false c.define-fault.ensures c.if-fault-ne0.true c.new.ensures in record { answers = w.0; rows = w.1 }
+    let w = accept_faulty schema_read c.if-read-ne0.false c.define-fault.ensures c.if-fault-ne0.true c.new.ensures in record
+    { answers = w.0; rows = w.1 }
 
 pub returns : goal.returns
 returns c =
     let schema_read : SchemaRead c.args.which c.args.schema.now c.args.table.now c.read_within-read.result c.read_within-read.new.table =
     record { answers = rw c.schema.ensures at c.read_within-read.ensures.answers; rows = rw c.schema.ensures at c.read_within-read.ensures.rows } in
-    let w = accept_fine schema_read c.if-read-ne0.false c.define-fault.ensures c.if-fault-ne0.false c.new-2.ensures in record { answers = w.0; rows = w.1 }
+    let w = accept_fine schema_read c.if-read-ne0.false c.define-fault.ensures c.if-fault-ne0.false c.new-2.ensures in record
+    { answers = w.0; rows = w.1 }

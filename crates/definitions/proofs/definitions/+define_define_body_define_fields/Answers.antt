@@ -303,7 +303,8 @@ define_body-returns-then-part-ne8-2 t c =
       | define_body-then-required-gt0+else-part-ne8 w ↦ sym w.row_at-part.ensures.kind ∙ w.if-part-ne8.false
       | define_body-else-required-gt0 w ↦ absurd (omega arith)
     ] in
-    optional_other body-found c.at-then-part-ne8-2.ensures body-first c.if-optional-gt0.true c.row_at-part-then-optional-gt0.ensures c.if-part-ne8-2.true
+    optional_other body-found c.at-then-part-ne8-2.ensures body-first c.if-optional-gt0.true c.row_at-part-then-optional-gt0.ensures
+    c.if-part-ne8-2.true
 
 pub define_body-first_shared-shared-requires : goal.define_body-first_shared-shared-requires
 define_body-first_shared-shared-requires t c =

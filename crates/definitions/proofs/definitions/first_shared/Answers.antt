@@ -45,7 +45,8 @@ names-init c =
     omega arith in
     let optional-there : 0 < c.args.optional =
     omega arith in
-    compare_start c.requires.part_row required-there c.row_at-others.ensures.children c.requires.part_row_2 optional-there c.row_at-left.ensures.children
+    compare_start c.requires.part_row required-there c.row_at-others.ensures.children c.requires.part_row_2 optional-there
+    c.row_at-left.ensures.children
 
 pub row_at-name-requires : goal.row_at-name-requires
 row_at-name-requires c = (candidate c.names.invariant c.names-test.true).in_table

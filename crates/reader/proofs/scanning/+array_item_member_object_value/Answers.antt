@@ -50,19 +50,22 @@ array-item-requires t c = (omega arith, inside_ready c.loop-code.invariant)
 
 pub array-returns-in-Refused : goal.array-returns-in-Refused
 array-returns-in-Refused t c =
-    let array-said : ElementSaid c.args.text.now c.args.depth c.args.at c.args.row c.args.heads.now c.args.marks.now c.item.new.heads c.item.new.marks c.loop-code.rows c.loop-code.children c.loop-code.i c.item.result =
+    let array-said : ElementSaid c.args.text.now c.args.depth c.args.at c.args.row c.args.heads.now c.args.marks.now c.item.new.heads
+    c.item.new.marks c.loop-code.rows c.loop-code.children c.loop-code.i c.item.result =
     record { heads = _; marks = _; inside = c.loop-code.invariant; told = c.item.ensures; headed = c.item.auto.heads; marked = c.item.auto.marks } in
     array_refused array-said c.in-Refused.is
 
 pub array-overflow_add-rows : goal.array-overflow_add-rows
 array-overflow_add-rows t c =
-    let array-said : ElementSaid c.args.text.now c.args.depth c.args.at c.args.row c.args.heads.now c.args.marks.now c.item.new.heads c.item.new.marks c.loop-code.rows c.loop-code.children c.loop-code.i c.item.result =
+    let array-said : ElementSaid c.args.text.now c.args.depth c.args.at c.args.row c.args.heads.now c.args.marks.now c.item.new.heads
+    c.item.new.marks c.loop-code.rows c.loop-code.children c.loop-code.i c.item.result =
     record { heads = _; marks = _; inside = c.loop-code.invariant; told = c.item.ensures; headed = c.item.auto.heads; marked = c.item.auto.marks } in
     omega (arith, turn_takes (array_turn array-said c.in-Value.is))
 
 pub array-overflow_add-children : goal.array-overflow_add-children
 array-overflow_add-children t c =
-    let array-said : ElementSaid c.args.text.now c.args.depth c.args.at c.args.row c.args.heads.now c.args.marks.now c.item.new.heads c.item.new.marks c.loop-code.rows c.loop-code.children c.loop-code.i c.item.result =
+    let array-said : ElementSaid c.args.text.now c.args.depth c.args.at c.args.row c.args.heads.now c.args.marks.now c.item.new.heads
+    c.item.new.marks c.loop-code.rows c.loop-code.children c.loop-code.i c.item.result =
     record { heads = _; marks = _; inside = c.loop-code.invariant; told = c.item.ensures; headed = c.item.auto.heads; marked = c.item.auto.marks } in
     omega (arith, turn_takes (array_turn array-said c.in-Value.is))
 
@@ -71,45 +74,55 @@ array-behind-requires t c = array_closing
 
 pub array-close-requires-in-Closing : goal.array-close-requires-in-Closing
 array-close-requires-in-Closing t c =
-    let array-said : ElementSaid c.args.text.now c.args.depth c.args.at c.args.row c.args.heads.now c.args.marks.now c.item.new.heads c.item.new.marks c.loop-code.rows c.loop-code.children c.loop-code.i c.item.result =
+    let array-said : ElementSaid c.args.text.now c.args.depth c.args.at c.args.row c.args.heads.now c.args.marks.now c.item.new.heads
+    c.item.new.marks c.loop-code.rows c.loop-code.children c.loop-code.i c.item.result =
     record { heads = _; marks = _; inside = c.loop-code.invariant; told = c.item.ensures; headed = c.item.auto.heads; marked = c.item.auto.marks } in
-    let array_behind : ElementFollowed c.args.text.now c.args.depth c.args.at c.args.row c.args.heads.now c.args.marks.now c.item.new.heads c.item.new.marks c.loop-code.rows c.loop-code.children c.loop-code.i c.in-Value.end c.in-Value.more c.behind.result =
+    let array_behind : ElementFollowed c.args.text.now c.args.depth c.args.at c.args.row c.args.heads.now c.args.marks.now c.item.new.heads
+    c.item.new.marks c.loop-code.rows c.loop-code.children c.loop-code.i c.in-Value.end c.in-Value.more c.behind.result =
     let s = array-said in
     record { turn = array_turn s c.in-Value.is; follows = c.behind.ensures } in
     turn_fits array_behind c.in-Closing.is
 
 pub array-returns-in-Closing : goal.array-returns-in-Closing
 array-returns-in-Closing t c =
-    let array-said : ElementSaid c.args.text.now c.args.depth c.args.at c.args.row c.args.heads.now c.args.marks.now c.item.new.heads c.item.new.marks c.loop-code.rows c.loop-code.children c.loop-code.i c.item.result =
+    let array-said : ElementSaid c.args.text.now c.args.depth c.args.at c.args.row c.args.heads.now c.args.marks.now c.item.new.heads
+    c.item.new.marks c.loop-code.rows c.loop-code.children c.loop-code.i c.item.result =
     record { heads = _; marks = _; inside = c.loop-code.invariant; told = c.item.ensures; headed = c.item.auto.heads; marked = c.item.auto.marks } in
-    let array_behind : ElementFollowed c.args.text.now c.args.depth c.args.at c.args.row c.args.heads.now c.args.marks.now c.item.new.heads c.item.new.marks c.loop-code.rows c.loop-code.children c.loop-code.i c.in-Value.end c.in-Value.more c.behind.result =
+    let array_behind : ElementFollowed c.args.text.now c.args.depth c.args.at c.args.row c.args.heads.now c.args.marks.now c.item.new.heads
+    c.item.new.marks c.loop-code.rows c.loop-code.children c.loop-code.i c.in-Value.end c.in-Value.more c.behind.result =
     let s = array-said in
     record { turn = array_turn s c.in-Value.is; follows = c.behind.ensures } in
     turn_close array_behind c.in-Closing.is (c.close-in-Closing.ensures.value, c.close-in-Closing.ensures.marks_after)
 
 pub array-loop-code-smaller : goal.array-loop-code-smaller
 array-loop-code-smaller t c =
-    let array-said : ElementSaid c.args.text.now c.args.depth c.args.at c.args.row c.args.heads.now c.args.marks.now c.item.new.heads c.item.new.marks c.loop-code.rows c.loop-code.children c.loop-code.i c.item.result =
+    let array-said : ElementSaid c.args.text.now c.args.depth c.args.at c.args.row c.args.heads.now c.args.marks.now c.item.new.heads
+    c.item.new.marks c.loop-code.rows c.loop-code.children c.loop-code.i c.item.result =
     record { heads = _; marks = _; inside = c.loop-code.invariant; told = c.item.ensures; headed = c.item.auto.heads; marked = c.item.auto.marks } in
-    let array_behind : ElementFollowed c.args.text.now c.args.depth c.args.at c.args.row c.args.heads.now c.args.marks.now c.item.new.heads c.item.new.marks c.loop-code.rows c.loop-code.children c.loop-code.i c.in-Value.end c.in-Value.more c.behind.result =
+    let array_behind : ElementFollowed c.args.text.now c.args.depth c.args.at c.args.row c.args.heads.now c.args.marks.now c.item.new.heads
+    c.item.new.marks c.loop-code.rows c.loop-code.children c.loop-code.i c.in-Value.end c.in-Value.more c.behind.result =
     let s = array-said in
     record { turn = array_turn s c.in-Value.is; follows = c.behind.ensures } in
     omega (arith, turn_on array_behind c.in-Item.is)
 
 pub array-loop-code-preserved : goal.array-loop-code-preserved
 array-loop-code-preserved t c =
-    let array-said : ElementSaid c.args.text.now c.args.depth c.args.at c.args.row c.args.heads.now c.args.marks.now c.item.new.heads c.item.new.marks c.loop-code.rows c.loop-code.children c.loop-code.i c.item.result =
+    let array-said : ElementSaid c.args.text.now c.args.depth c.args.at c.args.row c.args.heads.now c.args.marks.now c.item.new.heads
+    c.item.new.marks c.loop-code.rows c.loop-code.children c.loop-code.i c.item.result =
     record { heads = _; marks = _; inside = c.loop-code.invariant; told = c.item.ensures; headed = c.item.auto.heads; marked = c.item.auto.marks } in
-    let array_behind : ElementFollowed c.args.text.now c.args.depth c.args.at c.args.row c.args.heads.now c.args.marks.now c.item.new.heads c.item.new.marks c.loop-code.rows c.loop-code.children c.loop-code.i c.in-Value.end c.in-Value.more c.behind.result =
+    let array_behind : ElementFollowed c.args.text.now c.args.depth c.args.at c.args.row c.args.heads.now c.args.marks.now c.item.new.heads
+    c.item.new.marks c.loop-code.rows c.loop-code.children c.loop-code.i c.in-Value.end c.in-Value.more c.behind.result =
     let s = array-said in
     record { turn = array_turn s c.in-Value.is; follows = c.behind.ensures } in
     turn_next array_behind c.in-Item.is
 
 pub array-returns-in-Other : goal.array-returns-in-Other
 array-returns-in-Other t c =
-    let array-said : ElementSaid c.args.text.now c.args.depth c.args.at c.args.row c.args.heads.now c.args.marks.now c.item.new.heads c.item.new.marks c.loop-code.rows c.loop-code.children c.loop-code.i c.item.result =
+    let array-said : ElementSaid c.args.text.now c.args.depth c.args.at c.args.row c.args.heads.now c.args.marks.now c.item.new.heads
+    c.item.new.marks c.loop-code.rows c.loop-code.children c.loop-code.i c.item.result =
     record { heads = _; marks = _; inside = c.loop-code.invariant; told = c.item.ensures; headed = c.item.auto.heads; marked = c.item.auto.marks } in
-    let array_behind : ElementFollowed c.args.text.now c.args.depth c.args.at c.args.row c.args.heads.now c.args.marks.now c.item.new.heads c.item.new.marks c.loop-code.rows c.loop-code.children c.loop-code.i c.in-Value.end c.in-Value.more c.behind.result =
+    let array_behind : ElementFollowed c.args.text.now c.args.depth c.args.at c.args.row c.args.heads.now c.args.marks.now c.item.new.heads
+    c.item.new.marks c.loop-code.rows c.loop-code.children c.loop-code.i c.in-Value.end c.in-Value.more c.behind.result =
     let s = array-said in
     record { turn = array_turn s c.in-Value.is; follows = c.behind.ensures } in
     turn_bad array_behind c.in-Other.is c.refuse.ensures
@@ -179,7 +192,8 @@ pub member-overflow_add-row : goal.member-overflow_add-row
 member-overflow_add-row t c =
     let member-name : NameRead c.args.text.now c.args.marks.now c.args.object c.args.at c.in-Name.e c.in-Name.hash =
     name_read c.requires c.name.ensures c.in-Name.is in
-    let member-named : Named c.args.text.now c.args.heads.now c.args.marks.now c.push.new.heads c.push.new.marks c.args.depth c.args.object c.args.row c.args.at c.skip-k.result =
+    let member-named : Named c.args.text.now c.args.heads.now c.args.marks.now c.push.new.heads c.push.new.marks c.args.depth c.args.object
+    c.args.row c.args.at c.skip-k.result =
     named c.requires member-name (c.push.ensures.marks_after, c.push.ensures.index_2) c.skip_to-j.ensures c.peek.ensures
     c.if-peek-ne58.false c.skip-k.ensures in
     let r = named_ready member-named in omega (arith, r.rowed, r.inside)
@@ -188,7 +202,8 @@ pub member-item-requires : goal.member-item-requires
 member-item-requires t c =
     let member-name : NameRead c.args.text.now c.args.marks.now c.args.object c.args.at c.in-Name.e c.in-Name.hash =
     name_read c.requires c.name.ensures c.in-Name.is in
-    let member-named : Named c.args.text.now c.args.heads.now c.args.marks.now c.push.new.heads c.push.new.marks c.args.depth c.args.object c.args.row c.args.at c.skip-k.result =
+    let member-named : Named c.args.text.now c.args.heads.now c.args.marks.now c.push.new.heads c.push.new.marks c.args.depth c.args.object
+    c.args.row c.args.at c.skip-k.result =
     named c.requires member-name (c.push.ensures.marks_after, c.push.ensures.index_2) c.skip_to-j.ensures c.peek.ensures
     c.if-peek-ne58.false c.skip-k.ensures in
     (omega arith, named_ready member-named)
@@ -197,10 +212,12 @@ pub member-overflow_add-result : goal.member-overflow_add-result
 member-overflow_add-result t c =
     let member-name : NameRead c.args.text.now c.args.marks.now c.args.object c.args.at c.in-Name.e c.in-Name.hash =
     name_read c.requires c.name.ensures c.in-Name.is in
-    let member-named : Named c.args.text.now c.args.heads.now c.args.marks.now c.push.new.heads c.push.new.marks c.args.depth c.args.object c.args.row c.args.at c.skip-k.result =
+    let member-named : Named c.args.text.now c.args.heads.now c.args.marks.now c.push.new.heads c.push.new.marks c.args.depth c.args.object
+    c.args.row c.args.at c.skip-k.result =
     named c.requires member-name (c.push.ensures.marks_after, c.push.ensures.index_2) c.skip_to-j.ensures c.peek.ensures
     c.if-peek-ne58.false c.skip-k.ensures in
-    let member-valued : Valued c.args.text.now c.args.heads.now c.args.marks.now c.item.new.heads c.item.new.marks c.args.depth c.args.object c.args.row c.args.at c.item.result =
+    let member-valued : Valued c.args.text.now c.args.heads.now c.args.marks.now c.item.new.heads c.item.new.marks c.args.depth c.args.object
+    c.args.row c.args.at c.item.result =
     record { heads = _; marks = _; place = _; named = member-named; told = c.item.ensures; same = c.item.auto.marks } in
     omega (arith, named_rows member-valued c.in-Value.is)
 
@@ -211,10 +228,12 @@ pub member-returns-in-Refused : goal.member-returns-in-Refused
 member-returns-in-Refused t c =
     let member-name : NameRead c.args.text.now c.args.marks.now c.args.object c.args.at c.in-Name.e c.in-Name.hash =
     name_read c.requires c.name.ensures c.in-Name.is in
-    let member-named : Named c.args.text.now c.args.heads.now c.args.marks.now c.push.new.heads c.push.new.marks c.args.depth c.args.object c.args.row c.args.at c.skip-k.result =
+    let member-named : Named c.args.text.now c.args.heads.now c.args.marks.now c.push.new.heads c.push.new.marks c.args.depth c.args.object
+    c.args.row c.args.at c.skip-k.result =
     named c.requires member-name (c.push.ensures.marks_after, c.push.ensures.index_2) c.skip_to-j.ensures c.peek.ensures
     c.if-peek-ne58.false c.skip-k.ensures in
-    let member-valued : Valued c.args.text.now c.args.heads.now c.args.marks.now c.item.new.heads c.item.new.marks c.args.depth c.args.object c.args.row c.args.at c.item.result =
+    let member-valued : Valued c.args.text.now c.args.heads.now c.args.marks.now c.item.new.heads c.item.new.marks c.args.depth c.args.object
+    c.args.row c.args.at c.item.result =
     record { heads = _; marks = _; place = _; named = member-named; told = c.item.ensures; same = c.item.auto.marks } in
     told_valueless member-valued c.in-Refused.is
 
@@ -222,10 +241,12 @@ pub member-returns-in-Value : goal.member-returns-in-Value
 member-returns-in-Value t c =
     let member-name : NameRead c.args.text.now c.args.marks.now c.args.object c.args.at c.in-Name.e c.in-Name.hash =
     name_read c.requires c.name.ensures c.in-Name.is in
-    let member-named : Named c.args.text.now c.args.heads.now c.args.marks.now c.push.new.heads c.push.new.marks c.args.depth c.args.object c.args.row c.args.at c.skip-k.result =
+    let member-named : Named c.args.text.now c.args.heads.now c.args.marks.now c.push.new.heads c.push.new.marks c.args.depth c.args.object
+    c.args.row c.args.at c.skip-k.result =
     named c.requires member-name (c.push.ensures.marks_after, c.push.ensures.index_2) c.skip_to-j.ensures c.peek.ensures
     c.if-peek-ne58.false c.skip-k.ensures in
-    let member-valued : Valued c.args.text.now c.args.heads.now c.args.marks.now c.item.new.heads c.item.new.marks c.args.depth c.args.object c.args.row c.args.at c.item.result =
+    let member-valued : Valued c.args.text.now c.args.heads.now c.args.marks.now c.item.new.heads c.item.new.marks c.args.depth c.args.object
+    c.args.row c.args.at c.item.result =
     record { heads = _; marks = _; place = _; named = member-named; told = c.item.ensures; same = c.item.auto.marks } in
     told_member member-valued c.in-Value.is
 
@@ -263,20 +284,44 @@ object-member-requires t c = (omega arith, object_ready c.loop-code.invariant)
 
 pub object-returns-in-Refused : goal.object-returns-in-Refused
 object-returns-in-Refused t c =
-    let object-said : MemberSaid c.args.text.now c.args.depth c.args.at c.args.row c.args.heads.now c.args.marks.now c.member.new.heads c.member.new.marks c.loop-code.rows c.loop-code.children c.loop-code.i c.member.result =
-    record { heads = _; marks = _; inside = c.loop-code.invariant; told = c.member.ensures; headed = c.member.auto.heads; marked = c.member.auto.marks } in
+    let object-said : MemberSaid c.args.text.now c.args.depth c.args.at c.args.row c.args.heads.now c.args.marks.now c.member.new.heads
+    c.member.new.marks c.loop-code.rows c.loop-code.children c.loop-code.i c.member.result =
+    record {
+      heads = _;
+      marks = _;
+      inside = c.loop-code.invariant;
+      told = c.member.ensures;
+      headed = c.member.auto.heads;
+      marked = c.member.auto.marks;
+    } in
     object_refused object-said c.in-Refused.is
 
 pub object-overflow_add-rows : goal.object-overflow_add-rows
 object-overflow_add-rows t c =
-    let object-said : MemberSaid c.args.text.now c.args.depth c.args.at c.args.row c.args.heads.now c.args.marks.now c.member.new.heads c.member.new.marks c.loop-code.rows c.loop-code.children c.loop-code.i c.member.result =
-    record { heads = _; marks = _; inside = c.loop-code.invariant; told = c.member.ensures; headed = c.member.auto.heads; marked = c.member.auto.marks } in
+    let object-said : MemberSaid c.args.text.now c.args.depth c.args.at c.args.row c.args.heads.now c.args.marks.now c.member.new.heads
+    c.member.new.marks c.loop-code.rows c.loop-code.children c.loop-code.i c.member.result =
+    record {
+      heads = _;
+      marks = _;
+      inside = c.loop-code.invariant;
+      told = c.member.ensures;
+      headed = c.member.auto.heads;
+      marked = c.member.auto.marks;
+    } in
     omega (arith, turn_takes (object_turn object-said c.in-Value.is))
 
 pub object-overflow_add-children : goal.object-overflow_add-children
 object-overflow_add-children t c =
-    let object-said : MemberSaid c.args.text.now c.args.depth c.args.at c.args.row c.args.heads.now c.args.marks.now c.member.new.heads c.member.new.marks c.loop-code.rows c.loop-code.children c.loop-code.i c.member.result =
-    record { heads = _; marks = _; inside = c.loop-code.invariant; told = c.member.ensures; headed = c.member.auto.heads; marked = c.member.auto.marks } in
+    let object-said : MemberSaid c.args.text.now c.args.depth c.args.at c.args.row c.args.heads.now c.args.marks.now c.member.new.heads
+    c.member.new.marks c.loop-code.rows c.loop-code.children c.loop-code.i c.member.result =
+    record {
+      heads = _;
+      marks = _;
+      inside = c.loop-code.invariant;
+      told = c.member.ensures;
+      headed = c.member.auto.heads;
+      marked = c.member.auto.marks;
+    } in
     omega (arith, turn_takes (object_turn object-said c.in-Value.is))
 
 pub object-behind-requires : goal.object-behind-requires
@@ -284,45 +329,90 @@ object-behind-requires t c = object_closing
 
 pub object-close-requires-in-Closing : goal.object-close-requires-in-Closing
 object-close-requires-in-Closing t c =
-    let object-said : MemberSaid c.args.text.now c.args.depth c.args.at c.args.row c.args.heads.now c.args.marks.now c.member.new.heads c.member.new.marks c.loop-code.rows c.loop-code.children c.loop-code.i c.member.result =
-    record { heads = _; marks = _; inside = c.loop-code.invariant; told = c.member.ensures; headed = c.member.auto.heads; marked = c.member.auto.marks } in
-    let object-behind : MemberFollowed c.args.text.now c.args.depth c.args.at c.args.row c.args.heads.now c.args.marks.now c.member.new.heads c.member.new.marks c.loop-code.rows c.loop-code.children c.loop-code.i c.in-Value.end c.in-Value.more c.behind.result =
+    let object-said : MemberSaid c.args.text.now c.args.depth c.args.at c.args.row c.args.heads.now c.args.marks.now c.member.new.heads
+    c.member.new.marks c.loop-code.rows c.loop-code.children c.loop-code.i c.member.result =
+    record {
+      heads = _;
+      marks = _;
+      inside = c.loop-code.invariant;
+      told = c.member.ensures;
+      headed = c.member.auto.heads;
+      marked = c.member.auto.marks;
+    } in
+    let object-behind : MemberFollowed c.args.text.now c.args.depth c.args.at c.args.row c.args.heads.now c.args.marks.now c.member.new.heads
+    c.member.new.marks c.loop-code.rows c.loop-code.children c.loop-code.i c.in-Value.end c.in-Value.more c.behind.result =
     let s = object-said in
     record { turn = object_turn s c.in-Value.is; follows = c.behind.ensures } in
     turn_fits object-behind c.in-Closing.is
 
 pub object-returns-in-Closing : goal.object-returns-in-Closing
 object-returns-in-Closing t c =
-    let object-said : MemberSaid c.args.text.now c.args.depth c.args.at c.args.row c.args.heads.now c.args.marks.now c.member.new.heads c.member.new.marks c.loop-code.rows c.loop-code.children c.loop-code.i c.member.result =
-    record { heads = _; marks = _; inside = c.loop-code.invariant; told = c.member.ensures; headed = c.member.auto.heads; marked = c.member.auto.marks } in
-    let object-behind : MemberFollowed c.args.text.now c.args.depth c.args.at c.args.row c.args.heads.now c.args.marks.now c.member.new.heads c.member.new.marks c.loop-code.rows c.loop-code.children c.loop-code.i c.in-Value.end c.in-Value.more c.behind.result =
+    let object-said : MemberSaid c.args.text.now c.args.depth c.args.at c.args.row c.args.heads.now c.args.marks.now c.member.new.heads
+    c.member.new.marks c.loop-code.rows c.loop-code.children c.loop-code.i c.member.result =
+    record {
+      heads = _;
+      marks = _;
+      inside = c.loop-code.invariant;
+      told = c.member.ensures;
+      headed = c.member.auto.heads;
+      marked = c.member.auto.marks;
+    } in
+    let object-behind : MemberFollowed c.args.text.now c.args.depth c.args.at c.args.row c.args.heads.now c.args.marks.now c.member.new.heads
+    c.member.new.marks c.loop-code.rows c.loop-code.children c.loop-code.i c.in-Value.end c.in-Value.more c.behind.result =
     let s = object-said in
     record { turn = object_turn s c.in-Value.is; follows = c.behind.ensures } in
     turn_close object-behind c.in-Closing.is (c.close-in-Closing.ensures.value, c.close-in-Closing.ensures.marks_after)
 
 pub object-loop-code-smaller : goal.object-loop-code-smaller
 object-loop-code-smaller t c =
-    let object-said : MemberSaid c.args.text.now c.args.depth c.args.at c.args.row c.args.heads.now c.args.marks.now c.member.new.heads c.member.new.marks c.loop-code.rows c.loop-code.children c.loop-code.i c.member.result =
-    record { heads = _; marks = _; inside = c.loop-code.invariant; told = c.member.ensures; headed = c.member.auto.heads; marked = c.member.auto.marks } in
-    let object-behind : MemberFollowed c.args.text.now c.args.depth c.args.at c.args.row c.args.heads.now c.args.marks.now c.member.new.heads c.member.new.marks c.loop-code.rows c.loop-code.children c.loop-code.i c.in-Value.end c.in-Value.more c.behind.result =
+    let object-said : MemberSaid c.args.text.now c.args.depth c.args.at c.args.row c.args.heads.now c.args.marks.now c.member.new.heads
+    c.member.new.marks c.loop-code.rows c.loop-code.children c.loop-code.i c.member.result =
+    record {
+      heads = _;
+      marks = _;
+      inside = c.loop-code.invariant;
+      told = c.member.ensures;
+      headed = c.member.auto.heads;
+      marked = c.member.auto.marks;
+    } in
+    let object-behind : MemberFollowed c.args.text.now c.args.depth c.args.at c.args.row c.args.heads.now c.args.marks.now c.member.new.heads
+    c.member.new.marks c.loop-code.rows c.loop-code.children c.loop-code.i c.in-Value.end c.in-Value.more c.behind.result =
     let s = object-said in
     record { turn = object_turn s c.in-Value.is; follows = c.behind.ensures } in
     omega (arith, turn_on object-behind c.in-Item.is)
 
 pub object-loop-code-preserved : goal.object-loop-code-preserved
 object-loop-code-preserved t c =
-    let object-said : MemberSaid c.args.text.now c.args.depth c.args.at c.args.row c.args.heads.now c.args.marks.now c.member.new.heads c.member.new.marks c.loop-code.rows c.loop-code.children c.loop-code.i c.member.result =
-    record { heads = _; marks = _; inside = c.loop-code.invariant; told = c.member.ensures; headed = c.member.auto.heads; marked = c.member.auto.marks } in
-    let object-behind : MemberFollowed c.args.text.now c.args.depth c.args.at c.args.row c.args.heads.now c.args.marks.now c.member.new.heads c.member.new.marks c.loop-code.rows c.loop-code.children c.loop-code.i c.in-Value.end c.in-Value.more c.behind.result =
+    let object-said : MemberSaid c.args.text.now c.args.depth c.args.at c.args.row c.args.heads.now c.args.marks.now c.member.new.heads
+    c.member.new.marks c.loop-code.rows c.loop-code.children c.loop-code.i c.member.result =
+    record {
+      heads = _;
+      marks = _;
+      inside = c.loop-code.invariant;
+      told = c.member.ensures;
+      headed = c.member.auto.heads;
+      marked = c.member.auto.marks;
+    } in
+    let object-behind : MemberFollowed c.args.text.now c.args.depth c.args.at c.args.row c.args.heads.now c.args.marks.now c.member.new.heads
+    c.member.new.marks c.loop-code.rows c.loop-code.children c.loop-code.i c.in-Value.end c.in-Value.more c.behind.result =
     let s = object-said in
     record { turn = object_turn s c.in-Value.is; follows = c.behind.ensures } in
     turn_next object-behind c.in-Item.is
 
 pub object-returns-in-Other : goal.object-returns-in-Other
 object-returns-in-Other t c =
-    let object-said : MemberSaid c.args.text.now c.args.depth c.args.at c.args.row c.args.heads.now c.args.marks.now c.member.new.heads c.member.new.marks c.loop-code.rows c.loop-code.children c.loop-code.i c.member.result =
-    record { heads = _; marks = _; inside = c.loop-code.invariant; told = c.member.ensures; headed = c.member.auto.heads; marked = c.member.auto.marks } in
-    let object-behind : MemberFollowed c.args.text.now c.args.depth c.args.at c.args.row c.args.heads.now c.args.marks.now c.member.new.heads c.member.new.marks c.loop-code.rows c.loop-code.children c.loop-code.i c.in-Value.end c.in-Value.more c.behind.result =
+    let object-said : MemberSaid c.args.text.now c.args.depth c.args.at c.args.row c.args.heads.now c.args.marks.now c.member.new.heads
+    c.member.new.marks c.loop-code.rows c.loop-code.children c.loop-code.i c.member.result =
+    record {
+      heads = _;
+      marks = _;
+      inside = c.loop-code.invariant;
+      told = c.member.ensures;
+      headed = c.member.auto.heads;
+      marked = c.member.auto.marks;
+    } in
+    let object-behind : MemberFollowed c.args.text.now c.args.depth c.args.at c.args.row c.args.heads.now c.args.marks.now c.member.new.heads
+    c.member.new.marks c.loop-code.rows c.loop-code.children c.loop-code.i c.in-Value.end c.in-Value.more c.behind.result =
     let s = object-said in
     record { turn = object_turn s c.in-Value.is; follows = c.behind.ensures } in
     turn_bad object-behind c.in-Other.is c.refuse.ensures

@@ -10,4 +10,5 @@ returns-in-Other c =
 
 pub returns-in_default : goal.returns-in_default
 returns-in_default c =
-    follows_soon c.args.closing c.args.text.now c.args.end c.follows-r.result c.requires.1 (opened c.in_default.in_default-own.keys2) c.follows-r.ensures
+    follows_soon c.args.closing c.args.text.now c.args.end c.follows-r.result c.requires.1 (opened c.in_default.in_default-own.keys2)
+    c.follows-r.ensures

@@ -62,8 +62,10 @@ loop-out-smaller c = omega (arith, letters_room c.loop-out.invariant c.count_nam
 pub loop-out-preserved : goal.loop-out-preserved
 loop-out-preserved c =
     elim c.if-count_names-other.branch [
-      | then-count_names-other w ↦ rw w.out-is (letter_b c.loop-out.invariant c.count_names.ensures c.loop-out-test.true c.count_names-other.ensures c.count_names-in-loop-out.ensures w.if-count_names-other.true)
-      | else-count_names-other w ↦ rw w.out-is (letter_a c.loop-out.invariant c.count_names.ensures c.loop-out-test.true c.count_names-other.ensures c.count_names-in-loop-out.ensures w.if-count_names-other.false)
+      | then-count_names-other w ↦ rw w.out-is (letter_b c.loop-out.invariant c.count_names.ensures c.loop-out-test.true
+          c.count_names-other.ensures c.count_names-in-loop-out.ensures w.if-count_names-other.true)
+      | else-count_names-other w ↦ rw w.out-is (letter_a c.loop-out.invariant c.count_names.ensures c.loop-out-test.true
+          c.count_names-other.ensures c.count_names-in-loop-out.ensures w.if-count_names-other.false)
     ]
 
 pub shape_of-out : goal.shape_of-out

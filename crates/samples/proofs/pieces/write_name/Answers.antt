@@ -38,7 +38,10 @@ overflow_add-n c =
     let first : Lent c.args.out.now 1 (set c.args.out.now 0 c.args.lead) (c.args.lead ∷ []) (length (string_bytes c.args.text.now c.args.at) + 1) =
     lent (wrote_one c.args.out.now c.args.lead (omega (arith, name_room c.requires))) (omega (arith, name_room c.requires)) in
     let written : Lent c.args.out.now (1 + c.write_string-n.result.len) named (c.args.lead ∷ string_bytes c.args.text.now c.args.at) 1 =
-    lent_more first (string_bytes c.args.text.now c.args.at) (omega arith) (ap (λ (p : Piece). p.len) c.write_string-n.ensures.value, c.write_string-n.ensures.out_after) in
+    lent_more first (string_bytes c.args.text.now c.args.at) (omega arith) (
+      ap (λ (p : Piece). p.len) c.write_string-n.ensures.value,
+      c.write_string-n.ensures.out_after,
+    ) in
     omega (arith, written.room, c.well_formed)
 
 pub bounds-out-n : goal.bounds-out-n
@@ -48,7 +51,10 @@ bounds-out-n c =
     let first : Lent c.args.out.now 1 (set c.args.out.now 0 c.args.lead) (c.args.lead ∷ []) (length (string_bytes c.args.text.now c.args.at) + 1) =
     lent (wrote_one c.args.out.now c.args.lead (omega (arith, name_room c.requires))) (omega (arith, name_room c.requires)) in
     let written : Lent c.args.out.now (1 + c.write_string-n.result.len) named (c.args.lead ∷ string_bytes c.args.text.now c.args.at) 1 =
-    lent_more first (string_bytes c.args.text.now c.args.at) (omega arith) (ap (λ (p : Piece). p.len) c.write_string-n.ensures.value, c.write_string-n.ensures.out_after) in
+    lent_more first (string_bytes c.args.text.now c.args.at) (omega arith) (
+      ap (λ (p : Piece). p.len) c.write_string-n.ensures.value,
+      c.write_string-n.ensures.out_after,
+    ) in
     omega (arith, written.room, written.same)
 
 pub overflow_add-result : goal.overflow_add-result
@@ -58,7 +64,10 @@ overflow_add-result c =
     let first : Lent c.args.out.now 1 (set c.args.out.now 0 c.args.lead) (c.args.lead ∷ []) (length (string_bytes c.args.text.now c.args.at) + 1) =
     lent (wrote_one c.args.out.now c.args.lead (omega (arith, name_room c.requires))) (omega (arith, name_room c.requires)) in
     let written : Lent c.args.out.now (1 + c.write_string-n.result.len) named (c.args.lead ∷ string_bytes c.args.text.now c.args.at) 1 =
-    lent_more first (string_bytes c.args.text.now c.args.at) (omega arith) (ap (λ (p : Piece). p.len) c.write_string-n.ensures.value, c.write_string-n.ensures.out_after) in
+    lent_more first (string_bytes c.args.text.now c.args.at) (omega arith) (
+      ap (λ (p : Piece). p.len) c.write_string-n.ensures.value,
+      c.write_string-n.ensures.out_after,
+    ) in
     omega (arith, written.room, c.well_formed)
 
 pub shape_of-out : goal.shape_of-out
@@ -68,7 +77,10 @@ shape_of-out c =
     let first : Lent c.args.out.now 1 (set c.args.out.now 0 c.args.lead) (c.args.lead ∷ []) (length (string_bytes c.args.text.now c.args.at) + 1) =
     lent (wrote_one c.args.out.now c.args.lead (omega (arith, name_room c.requires))) (omega (arith, name_room c.requires)) in
     let written : Lent c.args.out.now (1 + c.write_string-n.result.len) named (c.args.lead ∷ string_bytes c.args.text.now c.args.at) 1 =
-    lent_more first (string_bytes c.args.text.now c.args.at) (omega arith) (ap (λ (p : Piece). p.len) c.write_string-n.ensures.value, c.write_string-n.ensures.out_after) in
+    lent_more first (string_bytes c.args.text.now c.args.at) (omega arith) (
+      ap (λ (p : Piece). p.len) c.write_string-n.ensures.value,
+      c.write_string-n.ensures.out_after,
+    ) in
     last_same written 0x3A
 
 pub returns : goal.returns
@@ -78,5 +90,8 @@ returns c =
     let first : Lent c.args.out.now 1 (set c.args.out.now 0 c.args.lead) (c.args.lead ∷ []) (length (string_bytes c.args.text.now c.args.at) + 1) =
     lent (wrote_one c.args.out.now c.args.lead (omega (arith, name_room c.requires))) (omega (arith, name_room c.requires)) in
     let written : Lent c.args.out.now (1 + c.write_string-n.result.len) named (c.args.lead ∷ string_bytes c.args.text.now c.args.at) 1 =
-    lent_more first (string_bytes c.args.text.now c.args.at) (omega arith) (ap (λ (p : Piece). p.len) c.write_string-n.ensures.value, c.write_string-n.ensures.out_after) in
+    lent_more first (string_bytes c.args.text.now c.args.at) (omega arith) (
+      ap (λ (p : Piece). p.len) c.write_string-n.ensures.value,
+      c.write_string-n.ensures.out_after,
+    ) in
     name_written written

@@ -89,7 +89,8 @@ pub write_fields-write_field-n-requires : goal.write_fields-write_field-n-requir
 write_fields-write_field-n-requires t c =
     let name : List ℕ =
     name_of c.args.text.now (word c.args.table.now c.loop-left.row 1) (word c.args.table.now c.loop-left.row 2) in
-    let name-kept : keeps c.args.all (characters c.args.key.now) (name_of c.args.text.now (word c.args.table.now c.loop-left.row 1) (word c.args.table.now c.loop-left.row 2)) ≡ true =
+    let name-kept : keeps c.args.all (characters c.args.key.now) (name_of c.args.text.now (word c.args.table.now c.loop-left.row 1)
+    (word c.args.table.now c.loop-left.row 2)) ≡ true =
     elim c.then-all.branch [
       | write_fields-then-all-via-then-all w ↦ search keeps_all
       | write_fields-then-all-via-else-all+then-not-same_name w ↦ search keeps_other
@@ -106,7 +107,8 @@ pub write_fields-overflow_add-n : goal.write_fields-overflow_add-n
 write_fields-overflow_add-n t c =
     let name : List ℕ =
     name_of c.args.text.now (word c.args.table.now c.loop-left.row 1) (word c.args.table.now c.loop-left.row 2) in
-    let name-kept : keeps c.args.all (characters c.args.key.now) (name_of c.args.text.now (word c.args.table.now c.loop-left.row 1) (word c.args.table.now c.loop-left.row 2)) ≡ true =
+    let name-kept : keeps c.args.all (characters c.args.key.now) (name_of c.args.text.now (word c.args.table.now c.loop-left.row 1)
+    (word c.args.table.now c.loop-left.row 2)) ≡ true =
     elim c.then-all.branch [
       | write_fields-then-all-via-then-all w ↦ search keeps_all
       | write_fields-then-all-via-else-all+then-not-same_name w ↦ search keeps_other
@@ -129,7 +131,8 @@ pub write_fields-loop-left-preserved : goal.write_fields-loop-left-preserved
 write_fields-loop-left-preserved t c =
     elim c.if-all.branch [
       | write_fields-then-all w ↦
-          let name-kept : keeps c.args.all (characters c.args.key.now) (name_of c.args.text.now (word c.args.table.now c.loop-left.row 1) (word c.args.table.now c.loop-left.row 2)) ≡ true =
+          let name-kept : keeps c.args.all (characters c.args.key.now) (name_of c.args.text.now (word c.args.table.now c.loop-left.row 1)
+          (word c.args.table.now c.loop-left.row 2)) ≡ true =
           elim w.then-all.branch [
             | write_fields-then-all-via-then-all v ↦ search keeps_all
             | write_fields-then-all-via-else-all+then-not-same_name v ↦ search keeps_other

@@ -63,7 +63,8 @@ judge-judge_array-requires t c =
     omega (arith, c.decreases) in
     let judge-other : word c.args.rows2.now c.args.by 0 ≡ 6 → ⊥ =
     λ e. c.if-row_at-eq6.false (c.row_at.ensures.kind ∙ e) in
-    let judge-generic : GenericRead c.args.document.now c.args.schema.now c.args.rows1.now c.args.rows2.now c.args.at c.args.by c.generic_name.result =
+    let judge-generic : GenericRead c.args.document.now c.args.schema.now c.args.rows1.now c.args.rows2.now c.args.at c.args.by
+    c.generic_name.result =
     record {
       given = c.requires;
       other = judge-other;
@@ -77,7 +78,8 @@ judge-judge_map-requires t c =
     omega (arith, c.decreases) in
     let judge-other : word c.args.rows2.now c.args.by 0 ≡ 6 → ⊥ =
     λ e. c.if-row_at-eq6.false (c.row_at.ensures.kind ∙ e) in
-    let judge-generic : GenericRead c.args.document.now c.args.schema.now c.args.rows1.now c.args.rows2.now c.args.at c.args.by c.generic_name.result =
+    let judge-generic : GenericRead c.args.document.now c.args.schema.now c.args.rows1.now c.args.rows2.now c.args.at c.args.by
+    c.generic_name.result =
     record {
       given = c.requires;
       other = judge-other;
@@ -91,7 +93,8 @@ judge-judge_object-requires t c =
     omega (arith, c.decreases) in
     let judge-other : word c.args.rows2.now c.args.by 0 ≡ 6 → ⊥ =
     λ e. c.if-row_at-eq6.false (c.row_at.ensures.kind ∙ e) in
-    let judge-generic : GenericRead c.args.document.now c.args.schema.now c.args.rows1.now c.args.rows2.now c.args.at c.args.by c.generic_name.result =
+    let judge-generic : GenericRead c.args.document.now c.args.schema.now c.args.rows1.now c.args.rows2.now c.args.at c.args.by
+    c.generic_name.result =
     record {
       given = c.requires;
       other = judge-other;
@@ -127,25 +130,29 @@ judge_array-loop-left-init t c = array_start c.requires c.row_at-value.ensures c
 
 pub judge_array-overflow_add-by : goal.judge_array-overflow_add-by
 judge_array-overflow_add-by t c =
-    let array-here : Turn c.args.document.now c.args.schema.now c.args.rows1.now c.args.rows2.now c.args.at c.args.by c.loop-left.row c.args.dates.now c.loop-left.dates =
+    let array-here : Turn c.args.document.now c.args.schema.now c.args.rows1.now c.args.rows2.now c.args.at c.args.by c.loop-left.row
+    c.args.dates.now c.loop-left.dates =
     array_turn c.loop-left.invariant c.loop-left-test.true in
     omega (arith, (in_table array-here.one.schema).here, c.well_formed)
 
 pub judge_array-judge-found-requires : goal.judge_array-judge-found-requires
 judge_array-judge-found-requires t c =
-    let array-here : Turn c.args.document.now c.args.schema.now c.args.rows1.now c.args.rows2.now c.args.at c.args.by c.loop-left.row c.args.dates.now c.loop-left.dates =
+    let array-here : Turn c.args.document.now c.args.schema.now c.args.rows1.now c.args.rows2.now c.args.at c.args.by c.loop-left.row
+    c.args.dates.now c.loop-left.dates =
     array_turn c.loop-left.invariant c.loop-left-test.true in
     (omega (arith, array-here.less, c.decreases), array-here.one)
 
 pub judge_array-returns-then-found-ne0 : goal.judge_array-returns-then-found-ne0
 judge_array-returns-then-found-ne0 t c =
-    let array-here : Turn c.args.document.now c.args.schema.now c.args.rows1.now c.args.rows2.now c.args.at c.args.by c.loop-left.row c.args.dates.now c.loop-left.dates =
+    let array-here : Turn c.args.document.now c.args.schema.now c.args.rows1.now c.args.rows2.now c.args.at c.args.by c.loop-left.row
+    c.args.dates.now c.loop-left.dates =
     array_turn c.loop-left.invariant c.loop-left-test.true in
     turn_stops array-here c.judge-found.ensures c.if-found-ne0.true
 
 pub judge_array-row_at-row-requires : goal.judge_array-row_at-row-requires
 judge_array-row_at-row-requires t c =
-    let array-here : Turn c.args.document.now c.args.schema.now c.args.rows1.now c.args.rows2.now c.args.at c.args.by c.loop-left.row c.args.dates.now c.loop-left.dates =
+    let array-here : Turn c.args.document.now c.args.schema.now c.args.rows1.now c.args.rows2.now c.args.at c.args.by c.loop-left.row
+    c.args.dates.now c.loop-left.dates =
     array_turn c.loop-left.invariant c.loop-left-test.true in
     in_table array-here.one.document
 
@@ -224,7 +231,8 @@ judge_fields-find-value-requires t c = c.requires.document
 
 pub judge_fields-judge_field-found-requires : goal.judge_fields-judge_field-found-requires
 judge_fields-judge_field-found-requires t c =
-    let fields-sought : FieldSought c.args.document.now c.args.schema.now c.args.rows1.now c.args.rows2.now c.args.at c.args.fields c.args.required c.loop-left.row c.loop-left.left c.find-value.result c.args.dates.now c.loop-left.dates =
+    let fields-sought : FieldSought c.args.document.now c.args.schema.now c.args.rows1.now c.args.rows2.now c.args.at c.args.fields
+    c.args.required c.loop-left.row c.loop-left.left c.find-value.result c.args.dates.now c.loop-left.dates =
     record {
       ahead = c.loop-left.invariant;
       some = c.loop-left-test.true;
@@ -235,7 +243,8 @@ judge_fields-judge_field-found-requires t c =
 
 pub judge_fields-returns-then-found-ne0 : goal.judge_fields-returns-then-found-ne0
 judge_fields-returns-then-found-ne0 t c =
-    let fields-sought : FieldSought c.args.document.now c.args.schema.now c.args.rows1.now c.args.rows2.now c.args.at c.args.fields c.args.required c.loop-left.row c.loop-left.left c.find-value.result c.args.dates.now c.loop-left.dates =
+    let fields-sought : FieldSought c.args.document.now c.args.schema.now c.args.rows1.now c.args.rows2.now c.args.at c.args.fields
+    c.args.required c.loop-left.row c.loop-left.left c.find-value.result c.args.dates.now c.loop-left.dates =
     record {
       ahead = c.loop-left.invariant;
       some = c.loop-left-test.true;
@@ -257,7 +266,8 @@ judge_fields-row_at-row-requires t c =
 
 pub judge_fields-loop-left-preserved : goal.judge_fields-loop-left-preserved
 judge_fields-loop-left-preserved t c =
-    let fields-sought : FieldSought c.args.document.now c.args.schema.now c.args.rows1.now c.args.rows2.now c.args.at c.args.fields c.args.required c.loop-left.row c.loop-left.left c.find-value.result c.args.dates.now c.loop-left.dates =
+    let fields-sought : FieldSought c.args.document.now c.args.schema.now c.args.rows1.now c.args.rows2.now c.args.at c.args.fields
+    c.args.required c.loop-left.row c.loop-left.left c.find-value.result c.args.dates.now c.loop-left.dates =
     record {
       ahead = c.loop-left.invariant;
       some = c.loop-left-test.true;
@@ -287,31 +297,36 @@ judge_map-loop-left-init t c = map_start c.requires c.row_at-value.ensures c.if-
 
 pub judge_map-overflow_add-by : goal.judge_map-overflow_add-by
 judge_map-overflow_add-by t c =
-    let map-here : Turn c.args.document.now c.args.schema.now c.args.rows1.now c.args.rows2.now c.args.at c.args.by c.loop-left.row c.args.dates.now c.loop-left.dates =
+    let map-here : Turn c.args.document.now c.args.schema.now c.args.rows1.now c.args.rows2.now c.args.at c.args.by c.loop-left.row
+    c.args.dates.now c.loop-left.dates =
     map_turn c.loop-left.invariant c.loop-left-test.true in
     omega (arith, (in_table map-here.one.schema).here, c.well_formed)
 
 pub judge_map-judge-found-requires : goal.judge_map-judge-found-requires
 judge_map-judge-found-requires t c =
-    let map-here : Turn c.args.document.now c.args.schema.now c.args.rows1.now c.args.rows2.now c.args.at c.args.by c.loop-left.row c.args.dates.now c.loop-left.dates =
+    let map-here : Turn c.args.document.now c.args.schema.now c.args.rows1.now c.args.rows2.now c.args.at c.args.by c.loop-left.row
+    c.args.dates.now c.loop-left.dates =
     map_turn c.loop-left.invariant c.loop-left-test.true in
     (omega (arith, map-here.less, c.decreases), map-here.one)
 
 pub judge_map-returns-then-found-ne0 : goal.judge_map-returns-then-found-ne0
 judge_map-returns-then-found-ne0 t c =
-    let map-here : Turn c.args.document.now c.args.schema.now c.args.rows1.now c.args.rows2.now c.args.at c.args.by c.loop-left.row c.args.dates.now c.loop-left.dates =
+    let map-here : Turn c.args.document.now c.args.schema.now c.args.rows1.now c.args.rows2.now c.args.at c.args.by c.loop-left.row
+    c.args.dates.now c.loop-left.dates =
     map_turn c.loop-left.invariant c.loop-left-test.true in
     turn_stops map-here c.judge-found.ensures c.if-found-ne0.true
 
 pub judge_map-row_at-row-requires : goal.judge_map-row_at-row-requires
 judge_map-row_at-row-requires t c =
-    let map-here : Turn c.args.document.now c.args.schema.now c.args.rows1.now c.args.rows2.now c.args.at c.args.by c.loop-left.row c.args.dates.now c.loop-left.dates =
+    let map-here : Turn c.args.document.now c.args.schema.now c.args.rows1.now c.args.rows2.now c.args.at c.args.by c.loop-left.row
+    c.args.dates.now c.loop-left.dates =
     map_turn c.loop-left.invariant c.loop-left-test.true in
     in_table map-here.one.document
 
 pub judge_map-overflow_add-row-in-loop-left : goal.judge_map-overflow_add-row-in-loop-left
 judge_map-overflow_add-row-in-loop-left t c =
-    let map-here : Turn c.args.document.now c.args.schema.now c.args.rows1.now c.args.rows2.now c.args.at c.args.by c.loop-left.row c.args.dates.now c.loop-left.dates =
+    let map-here : Turn c.args.document.now c.args.schema.now c.args.rows1.now c.args.rows2.now c.args.at c.args.by c.loop-left.row
+    c.args.dates.now c.loop-left.dates =
     map_turn c.loop-left.invariant c.loop-left-test.true in
     omega (arith, row_behind map-here.one.document c.row_at-row.ensures.next, c.well_formed)
 
@@ -511,25 +526,29 @@ judge_wide-bounds-values-i t c =
 
 pub judge_wide-judge_field-found-requires : goal.judge_wide-judge_field-found-requires
 judge_wide-judge_field-found-requires t c =
-    let wide-here : FieldSought c.args.document.now c.args.schema.now c.args.rows1.now c.args.rows2.now c.args.at c.args.fields c.args.required c.loop-i.row (c.row_at-names.result.children - c.loop-i.i) (get_or c.match_names.new.found c.loop-i.i 0) c.args.dates.now c.loop-i.dates =
+    let wide-here : FieldSought c.args.document.now c.args.schema.now c.args.rows1.now c.args.rows2.now c.args.at c.args.fields c.args.required
+    c.loop-i.row (c.row_at-names.result.children - c.loop-i.i) (get_or c.match_names.new.found c.loop-i.i 0) c.args.dates.now c.loop-i.dates =
     wide_sought c.loop-i.invariant c.loop-i-test.true in
     let i = wide-here in (omega (arith, field_rows i, c.decreases), field_judgeable i)
 
 pub judge_wide-returns-then-found-ne0 : goal.judge_wide-returns-then-found-ne0
 judge_wide-returns-then-found-ne0 t c =
-    let wide-here : FieldSought c.args.document.now c.args.schema.now c.args.rows1.now c.args.rows2.now c.args.at c.args.fields c.args.required c.loop-i.row (c.row_at-names.result.children - c.loop-i.i) (get_or c.match_names.new.found c.loop-i.i 0) c.args.dates.now c.loop-i.dates =
+    let wide-here : FieldSought c.args.document.now c.args.schema.now c.args.rows1.now c.args.rows2.now c.args.at c.args.fields c.args.required
+    c.loop-i.row (c.row_at-names.result.children - c.loop-i.i) (get_or c.match_names.new.found c.loop-i.i 0) c.args.dates.now c.loop-i.dates =
     wide_sought c.loop-i.invariant c.loop-i-test.true in
     field_fails wide-here c.judge_field-found.ensures c.if-found-ne0.true
 
 pub judge_wide-overflow_add-row-in-loop-i : goal.judge_wide-overflow_add-row-in-loop-i
 judge_wide-overflow_add-row-in-loop-i t c =
-    let wide-here : FieldSought c.args.document.now c.args.schema.now c.args.rows1.now c.args.rows2.now c.args.at c.args.fields c.args.required c.loop-i.row (c.row_at-names.result.children - c.loop-i.i) (get_or c.match_names.new.found c.loop-i.i 0) c.args.dates.now c.loop-i.dates =
+    let wide-here : FieldSought c.args.document.now c.args.schema.now c.args.rows1.now c.args.rows2.now c.args.at c.args.fields c.args.required
+    c.loop-i.row (c.row_at-names.result.children - c.loop-i.i) (get_or c.match_names.new.found c.loop-i.i 0) c.args.dates.now c.loop-i.dates =
     wide_sought c.loop-i.invariant c.loop-i-test.true in
     omega (arith, (in_table (sought_field wide-here).row.row).here, c.well_formed)
 
 pub judge_wide-row_at-row-requires : goal.judge_wide-row_at-row-requires
 judge_wide-row_at-row-requires t c =
-    let wide-here : FieldSought c.args.document.now c.args.schema.now c.args.rows1.now c.args.rows2.now c.args.at c.args.fields c.args.required c.loop-i.row (c.row_at-names.result.children - c.loop-i.i) (get_or c.match_names.new.found c.loop-i.i 0) c.args.dates.now c.loop-i.dates =
+    let wide-here : FieldSought c.args.document.now c.args.schema.now c.args.rows1.now c.args.rows2.now c.args.at c.args.fields c.args.required
+    c.loop-i.row (c.row_at-names.result.children - c.loop-i.i) (get_or c.match_names.new.found c.loop-i.i 0) c.args.dates.now c.loop-i.dates =
     wide_sought c.loop-i.invariant c.loop-i-test.true in
     in_table (sought_field wide-here).row.row
 

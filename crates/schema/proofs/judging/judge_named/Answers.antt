@@ -16,7 +16,8 @@ between-requires c =
 
 pub judge_date-requires : goal.judge_date-requires
 judge_date-requires c =
-    let read : NamedRead c.args.document.now c.args.schema.now c.args.rows1.now c.args.rows2.now c.args.at c.args.by c.row_at-value.result c.row_at-definition.result c.named_type-name.result =
+    let read : NamedRead c.args.document.now c.args.schema.now c.args.rows1.now c.args.rows2.now c.args.at c.args.by c.row_at-value.result
+    c.row_at-definition.result c.named_type-name.result =
     record {
       given = c.requires.judgeable;
       string = c.requires.by_value;
@@ -28,7 +29,8 @@ judge_date-requires c =
 
 pub define-requires : goal.define-requires
 define-requires c =
-    let read : NamedRead c.args.document.now c.args.schema.now c.args.rows1.now c.args.rows2.now c.args.at c.args.by c.row_at-value.result c.row_at-definition.result c.named_type-name.result =
+    let read : NamedRead c.args.document.now c.args.schema.now c.args.rows1.now c.args.rows2.now c.args.at c.args.by c.row_at-value.result
+    c.row_at-definition.result c.named_type-name.result =
     record {
       given = c.requires.judgeable;
       string = c.requires.by_value;
@@ -40,7 +42,8 @@ define-requires c =
 
 pub returns-then-define-eq0 : goal.returns-then-define-eq0
 returns-then-define-eq0 c =
-    let read : NamedRead c.args.document.now c.args.schema.now c.args.rows1.now c.args.rows2.now c.args.at c.args.by c.row_at-value.result c.row_at-definition.result c.named_type-name.result =
+    let read : NamedRead c.args.document.now c.args.schema.now c.args.rows1.now c.args.rows2.now c.args.at c.args.by c.row_at-value.result
+    c.row_at-definition.result c.named_type-name.result =
     record {
       given = c.requires.judgeable;
       string = c.requires.by_value;
@@ -53,7 +56,8 @@ returns-then-define-eq0 c =
 -- under a name that is judged by the value's kind
 pub returns-then-fits : goal.returns-then-fits
 returns-then-fits c =
-    let read : NamedRead c.args.document.now c.args.schema.now c.args.rows1.now c.args.rows2.now c.args.at c.args.by c.row_at-value.result c.row_at-definition.result c.named_type-name.result =
+    let read : NamedRead c.args.document.now c.args.schema.now c.args.rows1.now c.args.rows2.now c.args.at c.args.by c.row_at-value.result
+    c.row_at-definition.result c.named_type-name.result =
     record {
       given = c.requires.judgeable;
       string = c.requires.by_value;
@@ -65,7 +69,8 @@ returns-then-fits c =
 
 pub returns-in-DateTime : goal.returns-in-DateTime
 returns-in-DateTime c =
-    let read : NamedRead c.args.document.now c.args.schema.now c.args.rows1.now c.args.rows2.now c.args.at c.args.by c.row_at-value.result c.row_at-definition.result c.named_type-name.result =
+    let read : NamedRead c.args.document.now c.args.schema.now c.args.rows1.now c.args.rows2.now c.args.at c.args.by c.row_at-value.result
+    c.row_at-definition.result c.named_type-name.result =
     record {
       given = c.requires.judgeable;
       string = c.requires.by_value;
@@ -77,7 +82,8 @@ returns-in-DateTime c =
 
 pub returns-else-define-eq0 : goal.returns-else-define-eq0
 returns-else-define-eq0 c =
-    let read : NamedRead c.args.document.now c.args.schema.now c.args.rows1.now c.args.rows2.now c.args.at c.args.by c.row_at-value.result c.row_at-definition.result c.named_type-name.result =
+    let read : NamedRead c.args.document.now c.args.schema.now c.args.rows1.now c.args.rows2.now c.args.at c.args.by c.row_at-value.result
+    c.row_at-definition.result c.named_type-name.result =
     record {
       given = c.requires.judgeable;
       string = c.requires.by_value;
@@ -89,7 +95,8 @@ returns-else-define-eq0 c =
 
 pub returns-else-fits : goal.returns-else-fits
 returns-else-fits c =
-    let read : NamedRead c.args.document.now c.args.schema.now c.args.rows1.now c.args.rows2.now c.args.at c.args.by c.row_at-value.result c.row_at-definition.result c.named_type-name.result =
+    let read : NamedRead c.args.document.now c.args.schema.now c.args.rows1.now c.args.rows2.now c.args.at c.args.by c.row_at-value.result
+    c.row_at-definition.result c.named_type-name.result =
     record {
       given = c.requires.judgeable;
       string = c.requires.by_value;

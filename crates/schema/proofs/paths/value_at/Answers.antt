@@ -22,7 +22,8 @@ returns-then-word-ne9 c =
 
 pub loop-row-preserved : goal.loop-row-preserved
 loop-row-preserved c =
-    let onward : first_at c.args.table.now c.args.place c.loop-row.row (c.args.rows - c.loop-row.row) ≡ first_at c.args.table.now c.args.place (c.loop-row.row + 1) (c.args.rows - (c.loop-row.row + 1)) =
+    let onward : first_at c.args.table.now c.args.place c.loop-row.row (c.args.rows - c.loop-row.row) ≡ first_at c.args.table.now c.args.place
+    (c.loop-row.row + 1) (c.args.rows - (c.loop-row.row + 1)) =
     elim c.if-word-place.branch [
       | then-word-place+else-word-ne9 w ↦
           first_name c.args.table.now c.args.place c.loop-row-test.true (sym w.word-then-word-place.ensures ∙ w.if-word-ne9.false)

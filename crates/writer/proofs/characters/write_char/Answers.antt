@@ -28,4 +28,5 @@ write_utf8-requires c = utf8_ready _ (omega arith) (omega arith) (omega arith)
 
 pub returns : goal.returns
 returns c =
-    let w = over_of _ (by_utf8 _ (omega arith) (omega arith)) (c.write_utf8.ensures.value, c.write_utf8.ensures.out_after) in record { value = w.0; out_after = w.1 }
+    let w = over_of _ (by_utf8 _ (omega arith) (omega arith)) (c.write_utf8.ensures.value, c.write_utf8.ensures.out_after) in record
+    { value = w.0; out_after = w.1 }

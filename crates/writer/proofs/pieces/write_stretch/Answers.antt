@@ -14,7 +14,8 @@ overflow_sub-result c = rw c.copy_ordinary-end.ensures.value (run-from is_ordina
 
 pub returns-then-peek-ne92 : goal.returns-then-peek-ne92
 returns-then-peek-ne92 c =
-    let w = ordinary_written _ _ (omega arith) _ (c.copy_ordinary-end.ensures.value, c.copy_ordinary-end.ensures.out_after) in record { value = w.0; out_after = w.1 }
+    let w = ordinary_written _ _ (omega arith) _ (c.copy_ordinary-end.ensures.value, c.copy_ordinary-end.ensures.out_after) in record
+    { value = w.0; out_after = w.1 }
 
 pub write_char-requires : goal.write_char-requires
 write_char-requires c = escape_ready _ _ (omega arith) c.char_at.ensures c.in-Char.is (omega arith)
@@ -22,7 +23,8 @@ write_char-requires c = escape_ready _ _ (omega arith) c.char_at.ensures c.in-Ch
 -- behind it
 pub returns-in-Char : goal.returns-in-Char
 returns-in-Char c =
-    let w = escape_written _ _ (omega arith) c.char_at.ensures c.in-Char.is _ (c.write_char.ensures.value, c.write_char.ensures.out_after) in record { value = w.0; out_after = w.1 }
+    let w = escape_written _ _ (omega arith) c.char_at.ensures c.in-Char.is _ (c.write_char.ensures.value, c.write_char.ensures.out_after) in
+    record { value = w.0; out_after = w.1 }
 
 pub returns-in_default : goal.returns-in_default
 returns-in_default c =

@@ -10,7 +10,8 @@ write_string-requires c = string_ready _ _ (omega arith) c.requires
 
 pub returns-then-b-eq34 : goal.returns-then-b-eq34
 returns-then-b-eq34 c =
-    let w = string_written _ _ (omega arith) _ (c.write_string.ensures.value, c.write_string.ensures.out_after) in record { value = w.0; out_after = w.1 }
+    let w = string_written _ _ (omega arith) _ (c.write_string.ensures.value, c.write_string.ensures.out_after) in record
+    { value = w.0; out_after = w.1 }
 
 pub bounds-out-0 : goal.bounds-out-0
 bounds-out-0 c = structural_room c.requires (omega arith) (cc)
@@ -27,4 +28,5 @@ overflow_sub-result c = rw c.copy_atom-end.ensures.value (run-from is_atom _ _)
 
 pub returns : goal.returns
 returns c =
-    let w = atom_written _ _ (omega arith) (cc) _ (c.copy_atom-end.ensures.value, c.copy_atom-end.ensures.out_after) in record { value = w.0; out_after = w.1 }
+    let w = atom_written _ _ (omega arith) (cc) _ (c.copy_atom-end.ensures.value, c.copy_atom-end.ensures.out_after) in record
+    { value = w.0; out_after = w.1 }

@@ -13,7 +13,8 @@ shape_of-out-then-not-is_atom c = copying_length c.loop-i.invariant
 
 pub returns-then-not-is_atom : goal.returns-then-not-is_atom
 returns-then-not-is_atom c =
-    let w = copying_done c.loop-i.invariant (run_stop is_atom _ _ (fails c.is_atom.ensures (rw c.if-not-is_atom.true))) in record { value = w.0; out_after = w.1 }
+    let w = copying_done c.loop-i.invariant (run_stop is_atom _ _ (fails c.is_atom.ensures (rw c.if-not-is_atom.true))) in record
+    { value = w.0; out_after = w.1 }
 
 pub bounds-out-i : goal.bounds-out-i
 bounds-out-i c = copying_room c.loop-i.invariant (omega arith) (passes c.is_atom.ensures (rw c.if-not-is_atom.false))

@@ -13,7 +13,8 @@ shape_of-out-then-not-is_ordinary c = copying_length c.loop-i.invariant
 
 pub returns-then-not-is_ordinary : goal.returns-then-not-is_ordinary
 returns-then-not-is_ordinary c =
-    let w = copying_done c.loop-i.invariant (run_stop is_ordinary _ _ (fails c.is_ordinary.ensures (rw c.if-not-is_ordinary.true))) in record { value = w.0; out_after = w.1 }
+    let w = copying_done c.loop-i.invariant (run_stop is_ordinary _ _ (fails c.is_ordinary.ensures (rw c.if-not-is_ordinary.true))) in record
+    { value = w.0; out_after = w.1 }
 
 pub bounds-out-i : goal.bounds-out-i
 bounds-out-i c =

@@ -29,5 +29,12 @@ returns-in-34 c = rw c.in-34.is
 pub returns-in_default : goal.returns-in_default
 unfolding is_atom is_space
 returns-in_default c =
-    rw (ne_eqb _ 0x20 c.in_default.in_default-own.rest.0.0.0.0.1, ne_eqb _ 0x09 c.in_default.in_default-own.rest.0.0.0.1, ne_eqb _ 0x0A c.in_default.in_default-own.rest.0.0.1, ne_eqb _ 0x0D c.in_default.in_default-own.rest.0.1, ne_eqb _ 0x22 c.in_default.in_default-own.rest.1)
+    rw (
+      ne_eqb _ 0x20 c.in_default.in_default-own.rest.0.0.0.0.1,
+      ne_eqb _ 0x09 c.in_default.in_default-own.rest.0.0.0.1,
+      ne_eqb _ 0x0A
+          c.in_default.in_default-own.rest.0.0.1,
+      ne_eqb _ 0x0D c.in_default.in_default-own.rest.0.1,
+      ne_eqb _ 0x22 c.in_default.in_default-own.rest.1,
+    )
     (ap not c.is_structural.ensures)
