@@ -1,5 +1,5 @@
 -- The writers of the witness meet their contracts. The measure is four times the rows of the old definition, with up to five more by the order of the calls;
--- for a field, those of the definition behind its name. Below each member's name stands what is known at its places.
+-- for a field, those of the definition behind its name.
 use Prim.Native.Nat.{◌+◌, ◌*◌}
 use Rattle.syntax.specs.Holding.{word}
 use Rattle.counterexample.proofs.witnesses.+write_failing_write_no_array_write_no_map_write_no_object_write_under_write_witness.Given as goal

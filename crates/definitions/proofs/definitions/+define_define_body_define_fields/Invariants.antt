@@ -1,6 +1,6 @@
 -- The walk over the rows of a definition meets its contracts. The measure is the number of rows of the value at a row, and each call is at a value inside;
 -- a part that is absent, at row 0, counts none. The loop's invariant (`InFields`): the members not yet seen have the fault of the whole part.
--- `Laws`, `Body` and `Fields` have a law for each way out. Below each member's name stands what is known at its places.
+-- `Laws`, `Body` and `Fields` have a law for each way out.
 use Rattle.syntax.specs.Holding.{word}
 use Rattle.definitions.proofs.definitions.Body.{part_rows}
 use Rattle.definitions.proofs.definitions.Fields.{InFields}

@@ -1,5 +1,5 @@
 -- The writers of samples meet their contracts. The measure is three times the rows of the definition, with up to two more by the order of the calls;
--- fields that are absent, at row 0, count none. The loop's invariant is `InFields`. Below each member's name stands what is known at its places.
+-- fields that are absent, at row 0, count none. The loop's invariant is `InFields`.
 use Prim.Native.Nat.{◌+◌, ◌*◌}
 use Rattle.chars.specs.Strings.{characters}
 use Rattle.syntax.specs.Holding.{word}
