@@ -1,9 +1,7 @@
 -- For private contracts: the hash of a name's characters, and the order in which an index of names by hash leads through them.
-use Rattle.std.specs.Prelude.{ℕ, zero, suc, ◌+◌, ◌-◌, ◌*◌, ◌/◌, ◌%◌, Bool, cond, List, [], ◌∷◌}
-use Rattle.chars.specs.declared.strings.Scan.{Scan}
-use Rattle.chars.specs.declared.strings.Scan.TheVariants.{Ends, Stopped}
+use Rattle.std.specs.Prelude.{ℕ, zero, suc, ◌+◌, ◌-◌, ◌*◌, ◌/◌, ◌%◌, Bool, cond, List, [], ◌∷◌, Ok, Err}
 use Rattle.chars.specs.declared.hashing.Hashed.{Hashed}
-use Rattle.chars.specs.declared.hashing.Hashed.TheVariants.{Name, Broken}
+use Rattle.chars.specs.Refusals.{Reading}
 use Rattle.chars.specs.Strings.{string_at, characters, part}
 
 -- behind one character more
@@ -22,12 +20,15 @@ hash_from h (c ∷ cs) = hash_from (mix h c) cs
 abbrev pub hash_of : List ℕ → ℕ
 hash_of cs = hash_from 0 cs
 
-abbrev pub hashed_by : List ℕ → ℕ → Scan → Hashed
-hashed_by s i (Ends e) = Name e (hash_of (characters (part s i (e - 1))))
-hashed_by s i (Stopped c p) = Broken c p
+abbrev pub hashed : ℕ → ℕ → Hashed
+hashed end hash = record { end = end; hash = hash }
+
+abbrev pub hashed_by : List ℕ → ℕ → Reading ℕ → Reading Hashed
+hashed_by s i (Ok e) = Ok (hashed e (hash_of (characters (part s i (e - 1)))))
+hashed_by s i (Err r) = Err r
 
 -- the name whose characters begin at i
-unfoldable pub hashed_at : List ℕ → ℕ → Hashed
+unfoldable pub hashed_at : List ℕ → ℕ → Reading Hashed
 hashed_at s i = hashed_by s i (string_at s i)
 
 -- ---- an index leads from the last name of a bucket to the one before it

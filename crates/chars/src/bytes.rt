@@ -2,6 +2,8 @@
 ghost use Rattle.std.specs.Prelude.{◌≡◌, ◌≤◌};
 ghost use Rattle.chars.specs.Bytes.{byte_at, code_of, digit, escape_of, lowest, highest, six_bits};
 
+use crate::refusals::Code;
+
 pub fn wide(b: u8) -> u32
     ensures { result ≡ b }
 {
@@ -15,14 +17,13 @@ pub fn peek(text: &[u8], at: usize) -> u8
     if at < text.len() { text[at] } else { 0 }
 }
 
-// The code of a byte that an escape may not hold.
-pub fn code_of(b: u8) -> u32
+// What is wrong with a byte that an escape may not hold.
+pub fn code_of(b: u8) -> Code
     ensures { result ≡ code_of b }
 {
     match b {
-        0x80..=0xc1 => 4,
-        0xf5..=0xff => 4,
-        _ => 3,
+        0x80..=0xc1 | 0xf5..=0xff => Code::NotUtf8,
+        _ => Code::NotAllowed,
     }
 }
 

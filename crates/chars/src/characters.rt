@@ -1,134 +1,121 @@
 // The characters of a string, one at a time: UTF-8 and escapes (01, "Text").
 ghost use Rattle.std.specs.Prelude.{◌≡◌, ◌+◌, ◌≤◌, ◌<◌, length};
-ghost use Rattle.chars.specs.Characters.{stop_at, wrong_at, hex_pair, partner_at, rest_at, unicode_at, escape_at, two_at, three_at, four_at, char_at};
+ghost use Rattle.chars.specs.Characters.{refusal_at, wrong, hex_pair, partner_at, rest_at, unicode_at, escape_at, two_at, three_at, four_at, char_at, character_at};
 
 use crate::bytes::{code_of, digit_at, escape_of, highest, lowest, peek, six_at, wide};
 use crate::plain::is_plain;
+use crate::refusals::{Code, Reading, Refusal};
 
-// What stands at a place of a string: a character, with its scalar value and the place behind it; the closing quote; or an offence.
-#[derive(Clone, Copy)]
+// What stands at a place of a string: a character, with its scalar value and the place behind it; or the closing quote.
+#[derive(Clone, Copy, Debug, PartialEq, Eq)]
 pub enum Step {
     Char { value: u32, next: usize },
     Quote,
-    Refused { code: u32, place: usize },
 }
 
-// Two hex digits, or the place of the first that is none.
-#[derive(Clone, Copy)]
-pub enum Hex {
-    Pair(u16),
-    Bad(usize),
+// A character, with its scalar value and the place behind it.
+#[derive(Clone, Copy, Debug, PartialEq, Eq)]
+pub struct Character {
+    pub value: u32,
+    pub next: usize,
 }
 
 // The byte at a place is an offence, unless the text ended before it.
-fn stop(text: &[u8], at: usize, code: u32) -> Step
-    ensures { result ≡ stop_at text.now at code }
+pub fn refusal_at(text: &[u8], at: usize, code: Code) -> Refusal
+    ensures { result ≡ refusal_at text.now at code }
 {
     if at < text.len() {
-        Step::Refused { code, place: at }
+        Refusal { code, place: at }
     } else {
-        Step::Refused {
-            code: 2,
+        Refusal {
+            code: Code::Ended,
             place: text.len(),
         }
     }
 }
 
-fn wrong(text: &[u8], at: usize) -> Step
-    ensures { result ≡ wrong_at text.now at }
+// The byte at a place is none that an escape may hold there.
+fn wrong(text: &[u8], at: usize) -> Refusal
+    ensures { result ≡ wrong text.now at }
 {
-    let b = peek(text, at);
-    stop(text, at, code_of(b))
+    refusal_at(text, at, code_of(peek(text, at)))
 }
 
 // Two hex digits at a place.
-fn hex_pair(text: &[u8], at: usize) -> Hex
+fn hex_pair(text: &[u8], at: usize) -> Reading<u16>
     requires { at ≤ length text.now + 12 }
     ensures { result ≡ hex_pair text.now at }
 {
     let a = digit_at(text, at);
     if a > 15 {
-        return Hex::Bad(at);
+        return Err(wrong(text, at));
     }
     let b = digit_at(text, at + 1);
     if b > 15 {
-        return Hex::Bad(at + 1);
+        return Err(wrong(text, at + 1));
     }
-    Hex::Pair((16 * a + b) as u16)
+    Ok((16 * a + b) as u16)
 }
 
 // Behind the escape of the high surrogate `high`.
-fn partner(text: &[u8], at: usize, high: u32) -> Step
+fn partner(text: &[u8], at: usize, high: u32) -> Reading<Step>
     requires { (at ≤ length text.now + 8) × (0xD800 ≤ high) × (high < 0x20000) }
     ensures { result ≡ partner_at text.now at high }
 {
     if peek(text, at) != b'\\' {
-        return stop(text, at, 5);
+        return Err(refusal_at(text, at, Code::LoneSurrogate));
     }
     if peek(text, at + 1) != b'u' {
-        return stop(text, at + 1, 5);
+        return Err(refusal_at(text, at + 1, Code::LoneSurrogate));
     }
     if digit_at(text, at + 2) != 13 {
-        return stop(text, at + 2, 5);
+        return Err(refusal_at(text, at + 2, Code::LoneSurrogate));
     }
     let d = digit_at(text, at + 3);
-    if d < 12 {
-        return stop(text, at + 3, 5);
+    if d < 12 || d > 15 {
+        return Err(refusal_at(text, at + 3, Code::LoneSurrogate));
     }
-    if d > 15 {
-        return stop(text, at + 3, 5);
-    }
-    match hex_pair(text, at + 4) {
-        Hex::Bad(place) => wrong(text, place),
-        Hex::Pair(l) => {
-            let low = 256 * (0xd0 + wide(d)) + l as u32;
-            Step::Char {
-                value: 0x10000 + 0x400 * (high - 0xd800) + (low - 0xdc00),
-                next: at + 6,
-            }
-        }
-    }
+    let l = hex_pair(text, at + 4)?;
+    let low = 256 * (0xd0 + wide(d)) + l as u32;
+    Ok(Step::Char {
+        value: 0x10000 + 0x400 * (high - 0xd800) + (low - 0xdc00),
+        next: at + 6,
+    })
 }
 
 // The last two digits of the escape at a place, behind the first two.
-fn rest(text: &[u8], at: usize, first: u16) -> Step
+fn rest(text: &[u8], at: usize, first: u16) -> Reading<Step>
     requires { at ≤ length text.now }
     ensures { result ≡ rest_at text.now at first }
 {
-    match hex_pair(text, at + 4) {
-        Hex::Bad(place) => wrong(text, place),
-        Hex::Pair(l) => {
-            let value = 256 * (first as u32) + l as u32;
-            match first {
-                0xd8..=0xdb => partner(text, at + 6, value),
-                _ => Step::Char {
-                    value,
-                    next: at + 6,
-                },
-            }
-        }
+    let l = hex_pair(text, at + 4)?;
+    let value = 256 * (first as u32) + l as u32;
+    match first {
+        0xd8..=0xdb => partner(text, at + 6, value),
+        _ => Ok(Step::Char {
+            value,
+            next: at + 6,
+        }),
     }
 }
 
 // The escape at a place, with four hex digits.
-fn unicode(text: &[u8], at: usize) -> Step
+fn unicode(text: &[u8], at: usize) -> Reading<Step>
     requires { at ≤ length text.now }
     ensures { result ≡ unicode_at text.now at }
 {
-    match hex_pair(text, at + 2) {
-        Hex::Bad(place) => wrong(text, place),
-        Hex::Pair(first) => match first {
-            0xdc..=0xdf => Step::Refused {
-                code: 5,
-                place: at + 3,
-            },
-            _ => rest(text, at, first),
-        },
+    let first = hex_pair(text, at + 2)?;
+    match first {
+        0xdc..=0xdf => Err(Refusal {
+            code: Code::LoneSurrogate,
+            place: at + 3,
+        }),
+        _ => rest(text, at, first),
     }
 }
 
 // The escape whose backslash stands at a place.
-fn escape(text: &[u8], at: usize) -> Step
+fn escape(text: &[u8], at: usize) -> Reading<Step>
     requires { at ≤ length text.now }
     ensures { result ≡ escape_at text.now at }
 {
@@ -138,104 +125,114 @@ fn escape(text: &[u8], at: usize) -> Step
     }
     let value = escape_of(b);
     if value == 0 {
-        return wrong(text, at + 1);
+        return Err(wrong(text, at + 1));
     }
-    Step::Char {
+    Ok(Step::Char {
         value: wide(value),
         next: at + 2,
-    }
+    })
 }
 
 // The characters of UTF-8 with two, three and four bytes, of which the first is `b`.
-fn two(text: &[u8], at: usize, b: u8) -> Step
+fn two(text: &[u8], at: usize, b: u8) -> Reading<Step>
     requires { (at ≤ length text.now) × (0xC2 ≤ b) × (b < 0xE0) }
     ensures { result ≡ two_at text.now at b }
 {
     let c = six_at(text, at + 1, 0x80, 0xbf);
     if c > 63 {
-        return stop(text, at + 1, 4);
+        return Err(refusal_at(text, at + 1, Code::NotUtf8));
     }
-    Step::Char {
+    Ok(Step::Char {
         value: 64 * (wide(b) - 0xc0) + c,
         next: at + 2,
-    }
+    })
 }
 
-fn three(text: &[u8], at: usize, b: u8) -> Step
+fn three(text: &[u8], at: usize, b: u8) -> Reading<Step>
     requires { (at ≤ length text.now) × (0xE0 ≤ b) × (b < 0xF0) }
     ensures { result ≡ three_at text.now at b }
 {
     let c = six_at(text, at + 1, lowest(b), highest(b));
     if c > 63 {
-        return stop(text, at + 1, 4);
+        return Err(refusal_at(text, at + 1, Code::NotUtf8));
     }
     let d = six_at(text, at + 2, 0x80, 0xbf);
     if d > 63 {
-        return stop(text, at + 2, 4);
+        return Err(refusal_at(text, at + 2, Code::NotUtf8));
     }
-    Step::Char {
+    Ok(Step::Char {
         value: 4096 * (wide(b) - 0xe0) + 64 * c + d,
         next: at + 3,
-    }
+    })
 }
 
-fn four(text: &[u8], at: usize, b: u8) -> Step
+fn four(text: &[u8], at: usize, b: u8) -> Reading<Step>
     requires { (at ≤ length text.now) × (0xF0 ≤ b) × (b < 0xF5) }
     ensures { result ≡ four_at text.now at b }
 {
     let c = six_at(text, at + 1, lowest(b), highest(b));
     if c > 63 {
-        return stop(text, at + 1, 4);
+        return Err(refusal_at(text, at + 1, Code::NotUtf8));
     }
     let d = six_at(text, at + 2, 0x80, 0xbf);
     if d > 63 {
-        return stop(text, at + 2, 4);
+        return Err(refusal_at(text, at + 2, Code::NotUtf8));
     }
     let e = six_at(text, at + 3, 0x80, 0xbf);
     if e > 63 {
-        return stop(text, at + 3, 4);
+        return Err(refusal_at(text, at + 3, Code::NotUtf8));
     }
-    Step::Char {
+    Ok(Step::Char {
         value: 262144 * (wide(b) - 0xf0) + 4096 * c + 64 * d + e,
         next: at + 4,
-    }
+    })
 }
 
 // What stands at a place of a string, whichever it is.
-pub fn special(text: &[u8], at: usize) -> Step
+pub fn special(text: &[u8], at: usize) -> Reading<Step>
     ensures { result ≡ char_at text.now at }
 {
     let text = &text[..];
     let b = peek(text, at);
     match b {
-        b'"' => Step::Quote,
+        b'"' => Ok(Step::Quote),
         b'\\' => escape(text, at),
-        0x00..=0x1f => stop(text, at, 3),
-        0x20..=0x7f => Step::Char {
+        0x00..=0x1f => Err(refusal_at(text, at, Code::NotAllowed)),
+        0x20..=0x7f => Ok(Step::Char {
             value: wide(b),
             next: at + 1,
-        },
-        0x80..=0xc1 => stop(text, at, 4),
+        }),
+        0x80..=0xc1 => Err(refusal_at(text, at, Code::NotUtf8)),
         0xc2..=0xdf => two(text, at, b),
         0xe0..=0xef => three(text, at, b),
         0xf0..=0xf4 => four(text, at, b),
-        _ => stop(text, at, 4),
+        _ => Err(refusal_at(text, at, Code::NotUtf8)),
     }
 }
 
 // The same: a byte that stands for itself, and the closing quote, are told without a call.
-pub fn char_at(text: &[u8], at: usize) -> Step
+pub fn char_at(text: &[u8], at: usize) -> Reading<Step>
     ensures { result ≡ char_at text.now at }
 {
     let b = peek(text, at);
     if is_plain(b) {
-        return Step::Char {
+        return Ok(Step::Char {
             value: wide(b),
             next: at + 1,
-        };
+        });
     }
     if b == b'"' {
-        return Step::Quote;
+        return Ok(Step::Quote);
     }
     special(text, at)
+}
+
+// The character at a place; none where the closing quote, an offence or the end stands there.
+pub fn character_at(text: &[u8], at: usize) -> Option<Character>
+    ensures { result ≡ character_at text.now at }
+{
+    match char_at(text, at) {
+        Ok(Step::Char { value, next }) => Some(Character { value, next }),
+        _ => None,
+    }
 }

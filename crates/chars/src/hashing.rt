@@ -3,12 +3,13 @@ ghost use Rattle.std.specs.Prelude.{◌≡◌, ◌<◌};
 ghost use Rattle.chars.specs.Hashing.{mix, finish, hashed_at};
 
 use crate::characters::{Step, char_at};
+use crate::refusals::Reading;
 
 // Where a name ends, behind its closing quote, and the hash of its characters.
-#[derive(Clone, Copy)]
-pub enum Hashed {
-    Name { end: usize, hash: u64 },
-    Broken { code: u32, place: usize },
+#[derive(Clone, Copy, Debug, PartialEq, Eq)]
+pub struct Hashed {
+    pub end: usize,
+    pub hash: u64,
 }
 
 // The hash behind one character more.
@@ -27,25 +28,22 @@ fn finish(h: u64) -> u64
 }
 
 // The name whose characters begin at a place.
-pub fn hashed_end(text: &[u8], at: usize) -> Hashed
+pub fn hashed_end(text: &[u8], at: usize) -> Reading<Hashed>
     ensures { result ≡ hashed_at text.now at }
 {
     let mut h: u64 = 0;
     let mut i = at;
     loop {
-        match char_at(text, i) {
+        match char_at(text, i)? {
             Step::Char { value, next } => {
                 h = mix(h, value);
                 i = next;
             }
             Step::Quote => {
-                return Hashed::Name {
+                return Ok(Hashed {
                     end: i + 1,
                     hash: finish(h),
-                };
-            }
-            Step::Refused { code, place } => {
-                return Hashed::Broken { code, place };
+                });
             }
         }
     }

@@ -5,10 +5,12 @@ mod bytes;
 mod characters;
 mod hashing;
 mod plain;
+mod refusals;
 mod strings;
 mod wide;
 
 pub use bytes::peek;
-pub use characters::{Step, char_at};
+pub use characters::{Character, Step, char_at, character_at, refusal_at};
 pub use hashing::{Hashed, hashed_end};
-pub use strings::{Scan, same_name, string_end};
+pub use refusals::{Code, Reading, Refusal};
+pub use strings::{same_name, string_end};

@@ -4,36 +4,27 @@ ghost use Rattle.model.specs.Text.{same};
 ghost use Rattle.chars.specs.Strings.{string_at, characters};
 
 use crate::bytes::peek;
-use crate::characters::{Step, char_at, special};
+use crate::characters::{Step, character_at, special};
 use crate::plain::{is_plain, plain_end};
+use crate::refusals::Reading;
 use crate::wide::wides;
 
-// Where a string ends: behind its closing quote.
-#[derive(Clone, Copy)]
-pub enum Scan {
-    Ends(usize),
-    Stopped { code: u32, place: usize },
-}
-
-// Where the string ends whose characters begin at a place.
-pub fn string_end(text: &[u8], at: usize) -> Scan
+// The place behind the closing quote of the string whose characters begin at a place.
+pub fn string_end(text: &[u8], at: usize) -> Reading<usize>
     ensures { result ≡ string_at text.now at }
 {
     let mut i = at;
     loop {
         i = wides(text, plain_end(text, i));
         if peek(text, i) == b'"' {
-            return Scan::Ends(i + 1);
+            return Ok(i + 1);
         }
-        match special(text, i) {
+        match special(text, i)? {
             Step::Char { value: _, next } => {
                 i = next;
             }
             Step::Quote => {
-                return Scan::Ends(i + 1);
-            }
-            Step::Refused { code, place } => {
-                return Scan::Stopped { code, place };
+                return Ok(i + 1);
             }
         }
     }
@@ -67,29 +58,17 @@ fn same_characters(a: &[u8], b: &[u8]) -> bool
     let mut i = 0;
     let mut j = 0;
     loop {
-        match char_at(a, i) {
-            Step::Char { value: x, next } => match char_at(b, j) {
-                Step::Char {
-                    value: y,
-                    next: after,
-                } => {
-                    if x != y {
-                        return false;
-                    }
-                    i = next;
-                    j = after;
-                }
-                _ => {
-                    return false;
-                }
-            },
-            _ => {
-                return match char_at(b, j) {
-                    Step::Char { value: _, next: _ } => false,
-                    _ => true,
-                };
-            }
+        let Some(x) = character_at(a, i) else {
+            return character_at(b, j).is_none();
+        };
+        let Some(y) = character_at(b, j) else {
+            return false;
+        };
+        if x.value != y.value {
+            return false;
         }
+        i = x.next;
+        j = y.next;
     }
 }
 

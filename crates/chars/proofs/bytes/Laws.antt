@@ -11,6 +11,7 @@ use borrow.Author.Tests.{leb-true, leb-false, le-leb, lt-leb}
 pub use Rattle.model.proofs.Basics.{both, and_ways}
 use Rattle.model.proofs.Basics.{by_test}
 use Rattle.chars.specs.Bytes.{byte_at, from_to, code_of, digit, escape_of, lowest, highest, six_bits}
+use Rattle.chars.specs.Refusals.{number}
 
 -- within a range, and outside of it
 pub inside : (lo hi b : ℕ) → lo ≤ b → b ≤ hi → from_to lo hi b ≡ true
@@ -29,9 +30,9 @@ in_text s i h = go (dec_lt i (length s))
     go (yes l) = l
     go (no n) = let d : byte_at s i ≡ 0 = get_or-eq_default s 0 (omega arith) in omega arith
 
-pub code_bound : (b : ℕ) → (2 ≤ code_of b) × (code_of b ≤ 5)
+pub code_bound : (b : ℕ) → (2 ≤ number (code_of b)) × (number (code_of b) ≤ 5)
 unfolding code_of
-code_bound b = both (λ c. (2 ≤ c) × (c ≤ 5)) (from_to 0x80 0xC1 b || leb 0xF5 b) (λ _. omega arith) (λ _. omega arith)
+code_bound b = both (λ c. (2 ≤ number c) × (number c ≤ 5)) (from_to 0x80 0xC1 b || leb 0xF5 b) (λ _. omega arith) (λ _. omega arith)
 
 pub digit_byte : (b : ℕ) → digit b ≤ 15 → 0 < b
 unfolding digit

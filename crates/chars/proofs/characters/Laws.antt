@@ -11,27 +11,29 @@ use lib.ListN.{length, get_or-eq_default}
 use lib.Dec.{ltb, leb, eqb}
 use borrow.Author.Tests.{ltb-true, ltb-false, leb-true, eqb-true, eqb-false, le-ltb}
 use Rattle.chars.specs.declared.characters.Step.{Step}
-use Rattle.chars.specs.declared.characters.Step.TheVariants.{Char, Quote, Refused}
-use Rattle.chars.specs.declared.characters.Hex.{Hex}
-use Rattle.chars.specs.declared.characters.Hex.TheVariants.{Pair, Bad}
+use Rattle.chars.specs.declared.characters.Step.TheVariants.{Char, Quote}
 use Rattle.chars.specs.Bytes.{byte_at, from_to, code_of, digit, escape_of, lowest, highest, six_bits}
-use Rattle.chars.specs.Characters.{stop_at, wrong_at, hex_pair, with_pair, pair_value, partner_at, rest_at, unicode_at, escape_at}
+use Rattle.chars.specs.Characters.{refusal_at, stop_at, wrong, hex_pair, with_pair, pair_value, partner_at, rest_at, unicode_at, escape_at}
 use Rattle.chars.specs.Characters.{two_at, three_at, four_at, char_from, char_at}
 use Rattle.chars.proofs.bytes.Laws.{both, and_ways, outside, in_text, code_bound, digit_in, six_ways, lowest_of, highest_of, escape_small}
+use Rattle.std.specs.Prelude.{Ok, Err}
+use Rattle.chars.specs.Refusals.{number, refusal, Reading}
+use Rattle.chars.specs.declared.refusals.Code.{Code}
+use Rattle.chars.specs.declared.refusals.Code.TheVariants.{Ended, NotAllowed, NotUtf8, LoneSurrogate}
 
 -- a Unicode scalar value: at most 10FFFF, and no surrogate
 abbrev pub Scalar : ℕ → Type 0
 Scalar v = (v ≤ 0x10FFFF) × (0xD800 ≤ v → 0xE000 ≤ v)
 
 -- a character ends behind its place; a refusal has a code from 2 to 5
-abbrev pub Ahead : List ℕ → ℕ → Step → Type 0
-Ahead s i (Char v j) = (i < j) × (j ≤ length s) × Scalar v
-Ahead s i Quote = (i < length s) × (byte_at s i ≡ 0x22)
-Ahead s i (Refused c p) = (p ≤ length s) × (2 ≤ c) × (c ≤ 5)
+abbrev pub Ahead : List ℕ → ℕ → Reading Step → Type 0
+Ahead s i (Ok (Char v j)) = (i < j) × (j ≤ length s) × Scalar v
+Ahead s i (Ok Quote) = (i < length s) × (byte_at s i ≡ 0x22)
+Ahead s i (Err r) = (r.place ≤ length s) × (2 ≤ number r.code) × (number r.code ≤ 5)
 
-abbrev pub HexAhead : List ℕ → ℕ → Hex → Type 0
-HexAhead s i (Pair v) = (i + 2 ≤ length s) × (v < 256)
-HexAhead s i (Bad p) = Unit
+abbrev pub HexAhead : List ℕ → ℕ → Reading ℕ → Type 0
+HexAhead s i (Ok v) = (i + 2 ≤ length s) × (v < 256)
+HexAhead s i (Err r) = (r.place ≤ length s) × (2 ≤ number r.code) × (number r.code ≤ 5)
 
 -- two numbers, in one of three orders
 by_order : {P : Type 0} (a b : ℕ) → (a < b → P) → (a ≡ b → P) → (b < a → P) → P
@@ -42,12 +44,11 @@ by_order {P} a b f g h = go (dec_lt a b)
     go (no n) = let m : b ≤ a = omega arith in ⊎_elim (λ e. g (sym e)) h (eq-or-lt_of_le m)
 
 module _ (s : List ℕ) where
-  stop_ahead : (i j c : ℕ) → (2 ≤ c) × (c ≤ 5) → Ahead s i (stop_at s j c)
-  unfolding stop_at
-  stop_ahead i j c h = both (Ahead s i) (ltb j (length s)) (λ t. omega (arith, ltb-true j (length s) t)) (λ _. omega arith)
+  stop_ahead : (i j : ℕ) (c : Code) → (2 ≤ number c) × (number c ≤ 5) → Ahead s i (stop_at s j c)
+  unfolding refusal_at
+  stop_ahead i j c h = both (λ r. Ahead s i (Err r)) (ltb j (length s)) (λ t. omega (arith, ltb-true j (length s) t)) (λ _. omega arith)
 
-  wrong_ahead : (i j : ℕ) → Ahead s i (wrong_at s j)
-  unfolding wrong_at
+  wrong_ahead : (i j : ℕ) → Ahead s i (Err (wrong s j))
   wrong_ahead i j = stop_ahead i j (code_of (byte_at s j)) (code_bound (byte_at s j))
 
   pub hex_ahead : (i : ℕ) → HexAhead s i (hex_pair s i)
@@ -57,12 +58,12 @@ module _ (s : List ℕ) where
       (λ t. both (HexAhead s i) (leb (digit (byte_at s (i + 1))) 15)
       (λ u. let h : digit (byte_at s i) ≤ 15 = leb-true _ _ t in
       let g : digit (byte_at s (i + 1)) ≤ 15 = leb-true _ _ u in (omega (arith, digit_in s (i + 1) g), omega arith))
-      (λ _. tt))
-      (λ _. tt)
+      (λ _. wrong_ahead i (i + 1)))
+      (λ _. wrong_ahead i i)
 
-  with_ahead : (i j : ℕ) (k : ℕ → Step) (h : Hex) → HexAhead s j h → ((v : ℕ) → j + 2 ≤ length s → v < 256 → Ahead s i (k v)) → Ahead s i (with_pair s k h)
-  with_ahead i j k (Pair v) a f = f v a.0 a.1
-  with_ahead i j k (Bad p) a f = wrong_ahead i p
+  with_ahead : (i j : ℕ) (k : ℕ → Reading Step) (h : Reading ℕ) → HexAhead s j h → ((v : ℕ) → j + 2 ≤ length s → v < 256 → Ahead s i (k v)) → Ahead s i (with_pair k h)
+  with_ahead i j k (Ok v) a f = f v a.0 a.1
+  with_ahead i j k (Err r) a f = a
 
   pub partner_ahead : (i j high : ℕ) → i < j → 0xD800 ≤ high → high ≤ 0xDBFF → Ahead s i (partner_at s j high)
   unfolding partner_at
@@ -73,17 +74,17 @@ module _ (s : List ℕ) where
       (λ _. both (Ahead s i) (from_to 12 15 (digit (byte_at s (j + 3))))
       (λ t. and_ways (leb 12 (digit (byte_at s (j + 3)))) (leb (digit (byte_at s (j + 3))) 15) t
       (λ x y. let x₂ : 12 ≤ digit (byte_at s (j + 3)) = leb-true _ _ x in let y₂ : digit (byte_at s (j + 3)) ≤ 15 = leb-true _ _ y in
-      with_ahead i (j + 4) (λ l. Char (pair_value high (256 * (0xD0 + digit (byte_at s (j + 3))) + l)) (j + 6)) (hex_pair s (j + 4)) (hex_ahead (j + 4))
+      with_ahead i (j + 4) (λ l. Ok (Char (pair_value high (256 * (0xD0 + digit (byte_at s (j + 3))) + l)) (j + 6))) (hex_pair s (j + 4)) (hex_ahead (j + 4))
       (λ v m w. (omega arith, omega arith, (omega arith, λ g. omega arith)))))
-      (λ _. stop_ahead i (j + 3) 5 (omega arith)))
-      (λ _. stop_ahead i (j + 2) 5 (omega arith)))
-      (λ _. stop_ahead i (j + 1) 5 (omega arith)))
-      (λ _. stop_ahead i j 5 (omega arith))
+      (λ _. stop_ahead i (j + 3) LoneSurrogate (omega arith)))
+      (λ _. stop_ahead i (j + 2) LoneSurrogate (omega arith)))
+      (λ _. stop_ahead i (j + 1) LoneSurrogate (omega arith)))
+      (λ _. stop_ahead i j LoneSurrogate (omega arith))
 
   pub rest_ahead : (i x h : ℕ) → i < x + 6 → h < 256 → (0xDC ≤ h → 0xDF < h) → Ahead s i (rest_at s x h)
   unfolding rest_at
   rest_ahead i x h l small none =
-      with_ahead i (x + 4) (λ l. cond (from_to 0xD8 0xDB h) (partner_at s (x + 6) (256 * h + l)) (Char (256 * h + l) (x + 6)))
+      with_ahead i (x + 4) (λ l. cond (from_to 0xD8 0xDB h) (partner_at s (x + 6) (256 * h + l)) (Ok (Char (256 * h + l) (x + 6))))
       (hex_pair s (x + 4)) (hex_ahead (x + 4))
       (λ v m w. both (Ahead s i) (from_to 0xD8 0xDB h)
       (λ t. and_ways (leb 0xD8 h) (leb h 0xDB) t
@@ -93,7 +94,7 @@ module _ (s : List ℕ) where
   pub unicode_ahead : (i x : ℕ) → i < x + 6 → Ahead s i (unicode_at s x)
   unfolding unicode_at
   unicode_ahead i x l =
-      with_ahead i (x + 2) (λ h. cond (from_to 0xDC 0xDF h) (Refused 5 (x + 3)) (rest_at s x h)) (hex_pair s (x + 2)) (hex_ahead (x + 2))
+      with_ahead i (x + 2) (λ h. cond (from_to 0xDC 0xDF h) (Err (refusal LoneSurrogate (x + 3))) (rest_at s x h)) (hex_pair s (x + 2)) (hex_ahead (x + 2))
       (λ v m w. both (Ahead s i) (from_to 0xDC 0xDF v) (λ _. omega arith) (λ t. rest_ahead i x v l w (outside 0xDC 0xDF v t)))
 
   escape_byte : (b : ℕ) → eqb (escape_of b) 0 ≡ false → 0 < b
@@ -118,7 +119,7 @@ module _ (s : List ℕ) where
       both (Ahead s i) (leb (six_bits (byte_at s (i + 1)) 0x80 0xBF) 63)
       (λ t. let l = six_in (i + 1) 0x80 0xBF (omega arith) t in
       let c : six_bits (byte_at s (i + 1)) 0x80 0xBF ≤ 63 = leb-true _ _ t in (omega arith, omega arith, (omega arith, λ g. omega arith)))
-      (λ _. stop_ahead i (i + 1) 4 (omega arith))
+      (λ _. stop_ahead i (i + 1) NotUtf8 (omega arith))
 
   three_ahead : (i b : ℕ) → 0xE0 ≤ b → b < 0xF0 → Ahead s i (three_at s i b)
   unfolding three_at
@@ -137,8 +138,8 @@ module _ (s : List ℕ) where
               (λ e. omega (arith, (highest_of b (byte_at s (i + 1)) w.1).0 e)) g,
         ),
       ))
-      (λ _. stop_ahead i (i + 2) 4 (omega arith)))
-      (λ _. stop_ahead i (i + 1) 4 (omega arith))
+      (λ _. stop_ahead i (i + 2) NotUtf8 (omega arith)))
+      (λ _. stop_ahead i (i + 1) NotUtf8 (omega arith))
     where
       three_high : (b c d : ℕ) → 0xE0 ≤ b → c ≤ 63 → d ≤ 63 → (b ≡ 0xED → c ≤ 31)
           → 0xD800 ≤ 4096 * (b - 0xE0) + 64 * c + d → 0xE000 ≤ 4096 * (b - 0xE0) + 64 * c + d
@@ -158,9 +159,9 @@ module _ (s : List ℕ) where
       let r = four_range b _ _ _ lo hi c d e
       (λ q. omega (arith, (lowest_of b (byte_at s (i + 1)) w.0).1 q)) (λ q. omega (arith, (highest_of b (byte_at s (i + 1)) w.1).1 q)) in
       (omega arith, omega arith, (r.1, λ _. omega arith)))
-      (λ _. stop_ahead i (i + 3) 4 (omega arith)))
-      (λ _. stop_ahead i (i + 2) 4 (omega arith)))
-      (λ _. stop_ahead i (i + 1) 4 (omega arith))
+      (λ _. stop_ahead i (i + 3) NotUtf8 (omega arith)))
+      (λ _. stop_ahead i (i + 2) NotUtf8 (omega arith)))
+      (λ _. stop_ahead i (i + 1) NotUtf8 (omega arith))
     where
       four_range : (b c d e : ℕ) → 0xF0 ≤ b → b < 0xF5 → c ≤ 63 → d ≤ 63 → e ≤ 63 → (b ≡ 0xF0 → 16 ≤ c) → (b ≡ 0xF4 → c ≤ 15)
           → (0x10000 ≤ 262144 * (b - 0xF0) + 4096 * c + 64 * d + e) × (262144 * (b - 0xF0) + 4096 * c + 64 * d + e ≤ 0x10FFFF)
@@ -175,16 +176,16 @@ module _ (s : List ℕ) where
       let b : ℕ = byte_at s i in
       both (Ahead s i) (eqb b 0x22) (λ t. let q = eqb-true b 0x22 t in (in_text s i (omega arith), q))
       (λ _. both (Ahead s i) (eqb b 0x5C) (λ _. escape_ahead i)
-      (λ _. both (Ahead s i) (ltb b 0x20) (λ _. stop_ahead i i 3 (omega arith))
+      (λ _. both (Ahead s i) (ltb b 0x20) (λ _. stop_ahead i i NotAllowed (omega arith))
       (λ t. both (Ahead s i) (ltb b 0x80)
       (λ u. let l = in_text s i (omega (arith, ltb-false b 0x20 t)) in
       let h : b < 0x80 = ltb-true b 0x80 u in (omega arith, omega arith, (omega arith, λ g. omega arith)))
-      (λ _. both (Ahead s i) (ltb b 0xC2) (λ _. stop_ahead i i 4 (omega arith))
+      (λ _. both (Ahead s i) (ltb b 0xC2) (λ _. stop_ahead i i NotUtf8 (omega arith))
       (λ _. both (Ahead s i) (ltb b 0xE0) (λ u. two_ahead i b (ltb-true b 0xE0 u))
       (λ u. both (Ahead s i) (ltb b 0xF0) (λ v. three_ahead i b (ltb-false b 0xE0 u) (ltb-true b 0xF0 v))
-      (λ v. both (Ahead s i) (ltb b 0xF5) (λ w. four_ahead i b (ltb-false b 0xF0 v) (ltb-true b 0xF5 w)) (λ _. stop_ahead i i 4 (omega arith)))))))))
+      (λ v. both (Ahead s i) (ltb b 0xF5) (λ w. four_ahead i b (ltb-false b 0xF0 v) (ltb-true b 0xF5 w)) (λ _. stop_ahead i i NotUtf8 (omega arith)))))))))
 
   -- behind the text
-  pub char_end : (i : ℕ) → length s ≤ i → char_at s i ≡ Refused 2 (length s)
-  unfolding char_at char_from stop_at
+  pub char_end : (i : ℕ) → length s ≤ i → char_at s i ≡ Err (refusal Ended (length s))
+  unfolding char_at char_from refusal_at
   char_end i h = let e : byte_at s i ≡ 0 = get_or-eq_default s 0 h in rw (e, le-ltb i (length s) h)

@@ -18,8 +18,9 @@ use Rattle.chars.proofs.bytes.Laws.{both, and_ways}
 use Rattle.chars.proofs.Runs.{run-from}
 use Rattle.chars.proofs.characters.Utf8.{from_ascii}
 use Rattle.chars.proofs.strings.Laws.{string_char, chars_char, differ}
+use Rattle.std.specs.Prelude.{Ok}
 
-from_plain : (s : List ℕ) (i b : ℕ) → is_plain b ≡ true → char_from s i b ≡ Char b (i + 1)
+from_plain : (s : List ℕ) (i b : ℕ) → is_plain b ≡ true → char_from s i b ≡ Ok (Char b (i + 1))
 unfolding is_plain
 from_plain s i b t =
     and_ways (leb 0x20 b && ltb b 0x80 && not (eqb b 0x22)) (not (eqb b 0x5C)) t
@@ -35,20 +36,20 @@ digit_plain : (b : ℕ) → 0x30 ≤ b → b ≤ 0x39 → is_plain b ≡ true
 digit_plain b lo hi = is_plain_of (omega arith) (omega arith) (λ e. omega arith) (λ e. omega arith)
 
 module _ (s : List ℕ) (i : ℕ) where
-  pub plain_char : is_plain (byte_at s i) ≡ true → char_at s i ≡ Char (byte_at s i) (i + 1)
+  pub plain_char : is_plain (byte_at s i) ≡ true → char_at s i ≡ Ok (Char (byte_at s i) (i + 1))
   unfolding char_at
   plain_char t = from_plain s i (byte_at s i) t
 
   -- the same, as it is read: b is the byte, and v its value
-  pub plain_read : {b v : ℕ} → b ≡ byte_at s i → is_plain b ≡ true → v ≡ b → char_at s i ≡ Char v (i + 1)
+  pub plain_read : {b v : ℕ} → b ≡ byte_at s i → is_plain b ≡ true → v ≡ b → char_at s i ≡ Ok (Char v (i + 1))
   plain_read e t w = rw (w, e) (plain_char (rw e at t))
 
   -- a digit is one
-  pub digit_read : {b : ℕ} → b ≡ byte_at s i → 0x30 ≤ b → b ≤ 0x39 → char_at s i ≡ Char b (i + 1)
+  pub digit_read : {b : ℕ} → b ≡ byte_at s i → 0x30 ≤ b → b ≤ 0x39 → char_at s i ≡ Ok (Char b (i + 1))
   digit_read {b} e lo hi = plain_read e (digit_plain b lo hi) refl
 
   -- the closing quote, by its byte
-  pub quote_char : byte_at s i ≡ 0x22 → char_at s i ≡ Quote
+  pub quote_char : byte_at s i ≡ 0x22 → char_at s i ≡ Ok Quote
   unfolding char_at char_from
   quote_char e = rw e
 
@@ -69,6 +70,10 @@ module _ (s : List ℕ) where
 
     pub plain_ahead : i ≤ e
     plain_ahead = rw run-to (run-from is_plain s i)
+
+-- from a place on the string goes on as from i, from there as behind a run, and from there as behind r
+pub passed : (s : List ℕ) (a i e r : ℕ) → string_at s a ≡ string_at s i → e ≡ plain_end s i → string_at s r ≡ string_at s e → string_at s a ≡ string_at s r
+passed s a i e r p q w = p ∙ plain_string s i q ∙ sym w
 
 -- names that begin with different plain bytes
 module _ (a b : List ℕ) {x y : ℕ} where

@@ -7,13 +7,15 @@ use lib.ListN.{length}
 use lib.Dec.{eqb}
 use borrow.Author.Tests.{eqb-true}
 use Rattle.chars.specs.declared.characters.Step.{Step}
-use Rattle.chars.specs.declared.characters.Step.TheVariants.{Char, Quote, Refused}
+use Rattle.chars.specs.declared.characters.Step.TheVariants.{Char, Quote}
 use Rattle.chars.specs.Characters.{char_at}
 use Rattle.chars.specs.Strings.{values_on, chars_from, chars_at, characters}
 use Rattle.model.specs.Text.{same}
 use Rattle.model.proofs.Basics.{never, same_of, by_test}
 use Rattle.chars.proofs.bytes.Laws.{and_ways}
 use Rattle.chars.proofs.characters.Laws.{Scalar, Ahead, char_ahead}
+use Rattle.std.specs.Prelude.{Ok, Err}
+use Rattle.chars.specs.Refusals.{Reading}
 
 pub same_true : (xs ys : List ℕ) → same xs ys ≡ true → xs ≡ ys
 same_true [] [] t = refl
@@ -32,10 +34,10 @@ abbrev pub Scalars : List ℕ → Type 0
 Scalars [] = Unit
 Scalars (v ∷ vs) = Scalar v × Scalars vs
 
-spelled : (s : List ℕ) (i : ℕ) (f : ℕ → List ℕ) → ((j : ℕ) → Scalars (f j)) → (st : Step) → Ahead s i st → Scalars (values_on f st)
-spelled s i f h (Char v j) a = (a.2, h j)
-spelled s i f h Quote a = tt
-spelled s i f h (Refused c p) a = tt
+spelled : (s : List ℕ) (i : ℕ) (f : ℕ → List ℕ) → ((j : ℕ) → Scalars (f j)) → (st : Reading Step) → Ahead s i st → Scalars (values_on f st)
+spelled s i f h (Ok (Char v j)) a = (a.2, h j)
+spelled s i f h (Ok Quote) a = tt
+spelled s i f h (Err r) a = tt
 
 from_scalars : (k : ℕ) (s : List ℕ) (i : ℕ) → Scalars (chars_from k s i)
 unfolding chars_from

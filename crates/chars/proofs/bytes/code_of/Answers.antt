@@ -1,21 +1,22 @@
--- `chars::bytes::code_of` meets its contract: each range by the rule computed over it.
+-- `chars::bytes::code_of` meets its contract: within a range of bytes that begin no character, and beside both.
 use native.Mathlib.Omega.{arith}
+use borrow.Author.Tests.{le-leb, lt-leb}
 use Rattle.chars.specs.Bytes.{code_of}
-use Rattle.model.proofs.Span.{agree}
+use Rattle.chars.proofs.bytes.Laws.{inside, beside}
 use Rattle.chars.proofs.bytes.code_of.Goals as goal
 
 pub returns-in-128-to-193 : goal.returns-in-128-to-193
 unfolding code_of
-returns-in-128-to-193 c = agree code_of (λ _. 4) 0x80 66 tt _ (omega arith) c.in-128-to-193.if-b-lt194-own.true
+returns-in-128-to-193 c = rw (inside 0x80 0xC1 c.args.b (omega arith) (omega arith))
 
-pub returns-in-245-to-255 : goal.returns-in-245-to-255
+pub returns-in-128-to-193-2 : goal.returns-in-128-to-193-2
 unfolding code_of
-returns-in-245-to-255 c = agree code_of (λ _. 4) 0xF5 11 tt _ c.in-245-to-255.if-b-lt245-own.false (omega arith)
+returns-in-128-to-193-2 c = rw (beside 0x80 0xC1 c.args.b (λ l. omega arith), le-leb 0xF5 c.args.b (omega arith))
 
 pub returns-in_default : goal.returns-in_default
 unfolding code_of
-returns-in_default c = agree code_of (λ _. 3) 0 0x80 tt _ (omega arith) c.in_default.if-b-lt128-own.true
+returns-in_default c = rw (beside 0x80 0xC1 c.args.b (λ l. omega arith), lt-leb 0xF5 c.args.b (omega arith))
 
 pub returns-in_default-2 : goal.returns-in_default-2
 unfolding code_of
-returns-in_default-2 c = agree code_of (λ _. 3) 0xC2 51 tt _ (omega arith) c.in_default.if-b-lt245-own.true
+returns-in_default-2 c = rw (beside 0x80 0xC1 c.args.b (λ l. omega arith), lt-leb 0xF5 c.args.b (omega arith))

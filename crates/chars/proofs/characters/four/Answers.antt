@@ -13,13 +13,13 @@ pub returns-then-c-gt63 : goal.returns-then-c-gt63
 returns-then-c-gt63 c =
     let second : c.six_at-c.result ≡ six_bits (byte_at c.args.text.now (c.args.at + 1)) (lowest c.args.b) (highest c.args.b) =
     cc in
-    second_stopped (four_begins _ _ _) (second) c.if-c-gt63.true c.stop.ensures
+    second_stopped (four_begins _ _ _) (second) c.if-c-gt63.true c.refusal_at.ensures
 
 pub returns-then-d-gt63 : goal.returns-then-d-gt63
 returns-then-d-gt63 c =
     let second : c.six_at-c.result ≡ six_bits (byte_at c.args.text.now (c.args.at + 1)) (lowest c.args.b) (highest c.args.b) =
     cc in
-    third_stopped (four_begins _ _ _) (second) c.if-c-gt63.false c.six_at-d.ensures c.if-d-gt63.true c.stop-then-d-gt63.ensures
+    third_stopped (four_begins _ _ _) (second) c.if-c-gt63.false c.six_at-d.ensures c.if-d-gt63.true c.refusal_at-then-d-gt63.ensures
 
 pub returns-then-e-gt63 : goal.returns-then-e-gt63
 returns-then-e-gt63 c =
@@ -27,7 +27,7 @@ returns-then-e-gt63 c =
     cc in
     let passed : Passed c.args.text.now c.args.at c.args.b c.six_at-c.result c.six_at-d.result =
     record { second = second; fits = c.if-c-gt63.false; third = c.six_at-d.ensures; small = c.if-d-gt63.false } in
-    four_stopped (passed) c.six_at-e.ensures c.if-e-gt63.true c.stop-then-e-gt63.ensures
+    four_stopped (passed) c.six_at-e.ensures c.if-e-gt63.true c.refusal_at-then-e-gt63.ensures
 
 pub returns : goal.returns
 returns c =

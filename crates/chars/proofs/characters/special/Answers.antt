@@ -1,5 +1,6 @@
 -- `chars::characters::special` meets its contract: each arm by its byte. Where more is read behind the byte, it is not 0, so it lies within the text.
-use mathlib.Core.Path.{refl}
+use mathlib.Core.Path.{refl, ap}
+use Rattle.std.specs.Prelude.{Err}
 use Prim.Native.Nat.{◌<◌}
 use native.Mathlib.Omega.{arith}
 use lib.ListN.{length}
@@ -45,7 +46,7 @@ pub returns-in-92 : goal.returns-in-92
 returns-in-92 c = by_byte _ _ (omega arith) (from_backslash _ _ c.in-92.is) c.escape.ensures
 
 pub returns-in-0-to-31 : goal.returns-in-0-to-31
-returns-in-0-to-31 c = by_byte _ _ (omega arith) (from_control _ _ c.in-0-to-31.if-b-lt32-own.true) c.stop.ensures
+returns-in-0-to-31 c = by_byte _ _ (omega arith) (from_control _ _ c.in-0-to-31.if-b-lt32-own.true) (ap Err c.refusal_at.ensures)
 
 pub returns-in-32-to-127 : goal.returns-in-32-to-127
 returns-in-32-to-127 c =
@@ -53,7 +54,7 @@ returns-in-32-to-127 c =
 
 pub returns-in-128-to-193 : goal.returns-in-128-to-193
 returns-in-128-to-193 c =
-    by_byte _ _ (omega arith) (from_continuing _ _ (omega arith) c.in-128-to-193.if-b-lt194-own.true) c.stop-in-128-to-193.ensures
+    by_byte _ _ (omega arith) (from_continuing _ _ (omega arith) c.in-128-to-193.if-b-lt194-own.true) (ap Err c.refusal_at-in-128-to-193.ensures)
 
 pub returns-in-194-to-223 : goal.returns-in-194-to-223
 returns-in-194-to-223 c =
@@ -69,4 +70,4 @@ returns-in-240-to-244 c =
 
 pub returns-in_default : goal.returns-in_default
 returns-in_default c =
-    by_byte _ _ (omega arith) (from_none _ _ c.in_default.if-b-lt245-own.false) c.stop-in_default.ensures
+    by_byte _ _ (omega arith) (from_none _ _ c.in_default.if-b-lt245-own.false) (ap Err c.refusal_at-in_default.ensures)

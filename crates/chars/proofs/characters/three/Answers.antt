@@ -13,13 +13,13 @@ pub returns-then-c-gt63 : goal.returns-then-c-gt63
 returns-then-c-gt63 c =
     let second : c.six_at-c.result ≡ six_bits (byte_at c.args.text.now (c.args.at + 1)) (lowest c.args.b) (highest c.args.b) =
     cc in
-    second_stopped (three_begins _ _ _) (second) c.if-c-gt63.true c.stop.ensures
+    second_stopped (three_begins _ _ _) (second) c.if-c-gt63.true c.refusal_at.ensures
 
 pub returns-then-d-gt63 : goal.returns-then-d-gt63
 returns-then-d-gt63 c =
     let second : c.six_at-c.result ≡ six_bits (byte_at c.args.text.now (c.args.at + 1)) (lowest c.args.b) (highest c.args.b) =
     cc in
-    third_stopped (three_begins _ _ _) (second) c.if-c-gt63.false c.six_at-d.ensures c.if-d-gt63.true c.stop-then-d-gt63.ensures
+    third_stopped (three_begins _ _ _) (second) c.if-c-gt63.false c.six_at-d.ensures c.if-d-gt63.true c.refusal_at-then-d-gt63.ensures
 
 pub returns : goal.returns
 returns c =
