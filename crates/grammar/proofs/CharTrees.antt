@@ -180,7 +180,7 @@ module _ (s : List ℕ) where
   unfolding four_at
   four_walk i b = rw (plus_2 i, plus_3 i, plus_4 i)
 
-  pub char_quote : (i : ℕ) → byte_at s i ≡ 0x22 → char_at s i ≡ Quote
+  pub char_quote : (i : ℕ) → byte_at s i ≡ 0x22 → char_at s i ≡ (Ok Quote)
   unfolding char_at char_from
   char_quote i e = rw (eq-eqb _ _ e)
 

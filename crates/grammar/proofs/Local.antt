@@ -170,12 +170,12 @@ module _ {s t : List ℕ} {m : ℕ} (g : Agree s t m) where
 
   -- the last byte that a step looked at, besides the first
   abbrev step_place : Step → ℕ
-  step_place (Char v j) = j - 1
+  step_place (Ok (Char v j)) = j - 1
   step_place Quote = 0
   step_place (Refused c p) = p
 
   step_from : (x : Tree) (i : ℕ) (o : Step) → Stepped x s (i + 1) o → step_place o < m → i < m
-  step_from x i (Char v j) b h = omega (arith, b.ahead)
+  step_from x i (Ok (Char v j)) b h = omega (arith, b.ahead)
   step_from x i Quote b h = absurd b
   step_from x i (Refused c p) b h = omega (arith, b.0.ahead)
 
@@ -224,11 +224,11 @@ module _ {s t : List ℕ} {m : ℕ} (g : Agree s t m) where
 
       go : ((j : ℕ) → j ≤ length s → length s < j + k → scan_place (string_at s j) < m → string_at t j ≡ string_at s j) → (o : Step) → char_at s i ≡ o
           → string_at t i ≡ string_at s i
-      go rec (Char v j) q =
+      go rec (Ok (Char v j)) q =
           let b = char_next s i v j q in
           let h₂ : scan_place (string_at s j) < m = rw (string_char s i v j q) at h in
           let jm = string_reach j b.1 h₂ in
-          string_char t i v j (same (Char v j) q (omega arith)) ∙ rec j b.1 (omega arith) h₂ ∙ sym (string_char s i v j q)
+          string_char t i v j (same (Ok (Char v j)) q (omega arith)) ∙ rec j b.1 (omega arith) h₂ ∙ sym (string_char s i v j q)
       go rec Quote q = string_quote t i (same Quote q (omega (arith, string_reach i l h))) ∙ sym (string_quote s i q)
       go rec (Refused d p) q = string_stop t i d p (same (Refused d p) q (rw (string_stop s i d p q) at h)) ∙ sym (string_stop s i d p q)
 

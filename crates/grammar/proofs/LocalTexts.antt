@@ -27,6 +27,7 @@ use Rattle.grammar.proofs.Strings.{Scanned, string_sound}
 use Rattle.grammar.proofs.Members.{no_quote}
 use Rattle.grammar.proofs.Local.{Agree, place, Steady, Local, LocalIf, then_local, unexpected_local, part_steady, runs, string_steady}
 use Rattle.grammar.proofs.Local.{scalar_local}
+use Rattle.chars.specs.declared.refusals.Code.TheVariants.{TooDeep}
 
 -- ---- lists
 
@@ -203,7 +204,7 @@ module _ {s t : List ℕ} {m : ℕ} (g : Agree s t m) where
   value_local : (d i : ℕ) → i ≤ length s → Local m i (value_at d s i) (value_at d t i)
   unfolding value_at
   value_local zero i l h =
-      let x = by_first i (λ j. refused 7 j) (λ j. refused 7 j) (λ j. refused 7 j) (λ j. refused 7 j) (first_of (byte_at s i)) (λ _ b. (b, refl))
+      let x = by_first i (λ j. refused TooDeep j) (λ j. refused TooDeep j) (λ j. refused TooDeep j) (λ j. refused TooDeep j) (first_of (byte_at s i)) (λ _ b. (b, refl))
       (λ _ b. (b, refl)) h in
       (x.0, rw (g.bytes i x.0) x.1)
   value_local (suc d) i l h =

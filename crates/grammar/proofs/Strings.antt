@@ -58,7 +58,7 @@ module _ (s : List ℕ) where
   Scanned i (Stopped c p) = Begun IsChars s i p × Stop s c p
 
   -- behind a character
-  behind : (i v j : ℕ) → char_at s i ≡ Char v j → IsChar (part s i j) v → (x : Scan) → Scanned j x → Scanned i x
+  behind : (i v j : ℕ) → char_at s i ≡ Ok (Char v j) → IsChar (part s i j) v → (x : Scan) → Scanned j x → Scanned i x
   behind i v j e c (Ends f) h =
       let n = char_next s i v j e in rw (chars_char s i v j e) (spelled_in (between s (omega arith)) (◌∷◌ v) (λ w vs x. char c x) h)
   behind i v j e c (Stopped d p) h =
@@ -75,10 +75,10 @@ module _ (s : List ℕ) where
     where
       go : ((j : ℕ) → j ≤ length s → length s < j + k → Scanned j (string_at s j))
           → (o : Step) → char_at s i ≡ o → Stepped char_tree s i o → Scanned i (string_at s i)
-      go f (Char v j) q g =
+      go f (Ok (Char v j)) q g =
           let n = char_next s i v j q in
           rw (string_char s i v j q) (behind i v j q (lang_char (part s i j) v g.spells) (string_at s j) (f j n.1 (omega arith)))
-      go f Quote q g = absurd g
+      go f (Ok Quote) q g = absurd g
       go f (Refused c p) q g =
           rw (string_stop s i c p q) (begun_in (between_none s i) (λ v. v ∷ []) (λ w v x. chars_one (lang_char w v x)) g.0, g.1)
 

@@ -25,6 +25,7 @@ use Rattle.grammar.proofs.Pieces.{At, at_first, at_second, at_behind, between, b
 use Rattle.grammar.proofs.Pieces.{begun_more, spelled_in, Space, spaced, space_spelled, Follow}
 use Rattle.grammar.proofs.Series.{space_follow, skip_reads}
 use Rattle.grammar.proofs.Values.{value_sound, value_first, value_reads}
+use Rattle.chars.specs.declared.refusals.Code.TheVariants.{TooLong}
 
 -- space up to the end of the text
 behind : (s b : List ℕ) (e : ℕ) → IsSpace b → At s e b → e + length b ≡ length s → Follow (byte_at s e) × (skip s e ≡ length s)
@@ -75,7 +76,7 @@ module _ (d : ℕ) (s : List ℕ) where
     unfolding read_text
     short_whole h = rw (le-ltb bytes (length s) h)
 
-    pub not_long : (o : Parse Node) → read_text bytes d s ≡ o → (o ≡ refused 1 bytes → ⊥) → length s ≤ bytes
+    pub not_long : (o : Parse Node) → read_text bytes d s ≡ o → (o ≡ refused TooLong bytes → ⊥) → length s ≤ bytes
     unfolding read_text
     not_long o q n = by_test (ltb bytes (length s)) (λ t. absurd (n (sym q ∙ rw t))) (λ t. ltb-false bytes (length s) t)
 

@@ -25,7 +25,7 @@ pub data Tree : Type 0 where
 
 -- what is read at i
 abbrev pub walk : Tree → List ℕ → ℕ → Step
-walk (give v) s i = Char v i
+walk (give v) s i = Ok (Char v i)
 walk (next t c f) s i = let r = walk (f (byte_at s i)) s (i + 1) in cond (t (byte_at s i)) r (stop_at s i (c (byte_at s i)))
 
 -- the bytes that it takes, and the character that they spell
@@ -55,8 +55,8 @@ passes_in t z s i h = go (dec_lt 0 (byte_at s i))
 
 -- soundness of a step that is no quote: a character is spelled so, and a refusal stands where one is begun up to it
 abbrev pub Stepped : Tree → List ℕ → ℕ → Step → Type 0
-Stepped x s i (Char v j) = Spelled (Lang x) s i j v
-Stepped x s i Quote = ⊥
+Stepped x s i (Ok (Char v j)) = Spelled (Lang x) s i j v
+Stepped x s i (Ok Quote) = ⊥
 Stepped x s i (Refused c p) = Begun (Lang x) s i p × Stop s c p
 
 -- both ways in which a byte is refused
@@ -67,8 +67,8 @@ stop_ways P s i c f g = both P (ltb i (length s)) (λ t. f (ltb-true _ _ t)) (λ
 -- behind a byte that passes
 lift : (t : ℕ → Bool) (c : ℕ → ℕ) (f : ℕ → Tree) (s : List ℕ) (i : ℕ) → i < length s → t (byte_at s i) ≡ true
     → (o : Step) → Stepped (f (byte_at s i)) s (i + 1) o → Stepped (next t c f) s i o
-lift t c f s i l h (Char v j) r = spelled_in (between_one s l refl) (λ v. v) (λ w v x. (h, x)) r
-lift t c f s i l h Quote r = r
+lift t c f s i l h (Ok (Char v j)) r = spelled_in (between_one s l refl) (λ v. v) (λ w v x. (h, x)) r
+lift t c f s i l h (Ok Quote) r = r
 lift t c f s i l h (Refused d p) r = (begun_in (between_one s l refl) (λ v. v) (λ w v x. (h, x)) r.0, r.1)
 
 pub walk_sound : (x : Tree) → Good x → (s : List ℕ) (i : ℕ) → i ≤ length s → Stepped x s i (walk x s i)
@@ -82,7 +82,7 @@ walk_sound (next t c f) g s i l =
     stop_ways (Stepped (next t c f) s i) s i (c (byte_at s i)) (λ m. (b, inr (g.4 (byte_at s i), m))) (λ m. (begun_same (omega arith) b, inl (refl, refl))))
 
 -- what its language spells is read
-pub walk_reads : (x : Tree) (w : List ℕ) (v : ℕ) → Lang x w v → (s : List ℕ) (i : ℕ) → At s i w → walk x s i ≡ Char v (i + length w)
+pub walk_reads : (x : Tree) (w : List ℕ) (v : ℕ) → Lang x w v → (s : List ℕ) (i : ℕ) → At s i w → walk x s i ≡ Ok (Char v (i + length w))
 walk_reads (give u) [] v h s i a = let z : i ≡ i + 0 = omega arith in cc
 walk_reads (give u) (b ∷ w) v h s i a = absurd h
 walk_reads (next t c f) [] v h s i a = absurd h

@@ -13,6 +13,7 @@ use Rattle.model.proofs.Basics.{never, both}
 use Rattle.chars.proofs.Facts.{in_text, run-from}
 use Rattle.tokens.proofs.Facts.{unexpected_ways}
 use Rattle.syntax.specs.Grammar.{after_item, items_from, items_at, list_at}
+use Rattle.chars.specs.declared.refusals.Code.TheVariants.{Ended}
 
 -- ---- what is read behind another
 
@@ -54,7 +55,7 @@ Adds s rows before i (parsed all e) = (i < e) × (e ≤ length s) × (rows befor
 
 pub record Reads {L : Type 0} (s : List ℕ) (rows : L → ℕ) (item : L → ℕ → Parse L) : Type 0 where
   pub adds : (before : L) (i : ℕ) → Adds s rows before i (item before i)
-  pub ended : (before : L) (i : ℕ) → length s ≤ i → item before i ≡ refused 2 (length s)
+  pub ended : (before : L) (i : ℕ) → length s ≤ i → item before i ≡ refused Ended (length s)
 
 -- the same of one or more items with what closes them
 abbrev pub ItemsWithin : {L : Type 0} → List ℕ → (L → ℕ) → L → ℕ → Parse L → Type 0

@@ -20,6 +20,7 @@ use Rattle.syntax.proofs.Holding.{holds_same, table_holds, table_nested}
 use Rattle.syntax.proofs.Items.{Refusal}
 use Rattle.syntax.proofs.Values.{value_within, value_takes}
 use Rattle.syntax.proofs.Induction.{read_ways, read_begins}
+use Rattle.chars.specs.declared.refusals.Code.TheVariants.{TooLong}
 -- of a value at any place: where it lies, and that it spells a JSON value
 pub use Rattle.syntax.proofs.Placing.{value_placed}
 pub use Rattle.syntax.proofs.Json.{value_json}
@@ -62,7 +63,7 @@ module _ (bytes depth : ℕ) (s : List ℕ) where
   -- ---- a refusal
 
   -- a text that is too long has code 1 at the limit, whatever it holds
-  pub read_long : bytes < length s → read_text bytes depth s ≡ refused 1 bytes
+  pub read_long : bytes < length s → read_text bytes depth s ≡ refused TooLong bytes
   unfolding read_text
   read_long h = rw (lt-ltb bytes (length s) h)
 

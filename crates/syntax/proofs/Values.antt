@@ -29,12 +29,13 @@ use Rattle.syntax.specs.Rows.{size, sizes, sizes_members}
 use Rattle.syntax.specs.Grammar.{list_at, element_at, array_at, name_of, repeated, name_at, after_name, member_at, object_at, leaf_at, value_by, value_at}
 use Rattle.syntax.proofs.Items.{then_both, then_parsed, Refusal, unexpected_both, unexpected_no, Adds, Reads, ListWithin, list_within, byte_in}
 use Rattle.syntax.proofs.Sizes.{size_pos, sizes_add, sizes_members_add}
+use Rattle.chars.specs.declared.refusals.Code.TheVariants.{Ended, NameTwice, TooDeep}
 
 -- ---- which way a value goes
 
 -- what an opening byte begins, with d more brackets allowed
 abbrev opening : ((ℕ → Parse Node) → List ℕ → ℕ → Parse Node) → ℕ → List ℕ → ℕ → Parse Node
-opening at zero s j = refused 7 j
+opening at zero s j = refused TooDeep j
 opening at (suc d) s j = at (value_at d s) s j
 
 -- the three ways: an array, an object, and what holds no other value
@@ -62,14 +63,14 @@ module _ (d : ℕ) (s : List ℕ) (i : ℕ) where
   opened at z = let e : d ≡ suc (d - 1) = omega arith in ap (λ (k : ℕ). opening at k s i) e
 
   module _ (f : first_of (byte_at s i) ≡ Array) where
-    pub value_deep_array : d ≡ 0 → value_at d s i ≡ refused 7 i
+    pub value_deep_array : d ≡ 0 → value_at d s i ≡ refused TooDeep i
     value_deep_array z = value-by ∙ rw (f, z)
 
     pub value_array : (d ≡ 0 → ⊥) → value_at d s i ≡ array_at (value_at (d - 1) s) s i
     value_array z = value-by ∙ rw f (opened array_at z)
 
   module _ (f : first_of (byte_at s i) ≡ Object) where
-    pub value_deep_object : d ≡ 0 → value_at d s i ≡ refused 7 i
+    pub value_deep_object : d ≡ 0 → value_at d s i ≡ refused TooDeep i
     value_deep_object z = value-by ∙ rw (f, z)
 
     pub value_object : (d ≡ 0 → ⊥) → value_at d s i ≡ object_at (value_at (d - 1) s) s i
@@ -112,7 +113,7 @@ module _ (s : List ℕ) (before : Members) (i : ℕ) where
     name_stopped q = rw (b, q)
 
     module _ {e : ℕ} (q : string_at s (i + 1) ≡ Ends e) where
-      pub name_again : repeated s before (name_of s i e) ≡ true → name_at s before i ≡ refused 6 (e - 1)
+      pub name_again : repeated s before (name_of s i e) ≡ true → name_at s before i ≡ refused NameTwice (e - 1)
       unfolding name_at
       name_again t = rw (b, q, t)
 
@@ -236,13 +237,13 @@ module _ (s : List ℕ) (before : Members) (i : ℕ) where
   pub name_takes : {k : Kind} {e : ℕ} → name_at s before i ≡ parsed k e → i + 2 ≤ e
   name_takes {k} {e} q = let w : (i + 1 < e) × (e ≤ length s) = rw (name_parsed s before i q).1 at (string_bounded s (i + 1)) in omega arith
 
-  pub name-end : length s ≤ i → name_at s before i ≡ refused 2 (length s)
+  pub name-end : length s ≤ i → name_at s before i ≡ refused Ended (length s)
   unfolding name_at
   name-end h = let z : byte_at s i ≡ 0 = get_or-eq_default s 0 h in rw z (unexpected_end s i h)
 
 -- ---- elements and members, over any way to read a value
 
-module _ (s : List ℕ) (v : ℕ → Parse Node) (within : (i : ℕ) → ValueWithin s i (v i)) (ended : (i : ℕ) → length s ≤ i → v i ≡ refused 2 (length s)) where
+module _ (s : List ℕ) (v : ℕ → Parse Node) (within : (i : ℕ) → ValueWithin s i (v i)) (ended : (i : ℕ) → length s ≤ i → v i ≡ refused Ended (length s)) where
   elements : Reads s sizes (element_at v)
   elements = record { adds = λ before i. go before i (v i) (within i); ended = λ before i h. rw (ended i h) }
     where
@@ -287,7 +288,7 @@ module _ (s : List ℕ) (v : ℕ → Parse Node) (within : (i : ℕ) → ValueWi
 
 -- ---- values
 
-pub value_end : (d : ℕ) (s : List ℕ) (i : ℕ) → length s ≤ i → value_at d s i ≡ refused 2 (length s)
+pub value_end : (d : ℕ) (s : List ℕ) (i : ℕ) → length s ≤ i → value_at d s i ≡ refused Ended (length s)
 value_end d s i h =
     let z : byte_at s i ≡ 0 = get_or-eq_default s 0 h in
     value_leaf d s i (λ q. omega (arith, first_array (byte_at s i) q)) (λ q. omega (arith, first_object (byte_at s i) q)) ∙ rw (scalar_end s i h)

@@ -39,20 +39,20 @@ pub record Stretch (s : List ℕ) (i e : ℕ) : Type 0 where
 pub not_refused : (s : List ℕ) (i c p e : ℕ) → char_at s i ≡ Refused c p → string_at s i ≡ Ends e → ⊥
 not_refused s i c p e q h = never (cc (string_stop s i c p q))
 
-pub quote_ends : (s : List ℕ) (i e : ℕ) → char_at s i ≡ Quote → string_at s i ≡ Ends e → (e ≡ i + 1) × (chars_at s i ≡ [])
+pub quote_ends : (s : List ℕ) (i e : ℕ) → char_at s i ≡ (Ok Quote) → string_at s i ≡ Ends e → (e ≡ i + 1) × (chars_at s i ≡ [])
 quote_ends s i e q h = (cc (string_quote s i q), chars_step s i ∙ ap (values_on (chars_at s)) q)
 
-pub quote_byte : (s : List ℕ) (i e : ℕ) → char_at s i ≡ Quote → string_at s i ≡ Ends e → byte_at s i ≡ 0x22
+pub quote_byte : (s : List ℕ) (i e : ℕ) → char_at s i ≡ (Ok Quote) → string_at s i ≡ Ends e → byte_at s i ≡ 0x22
 quote_byte s i e q h = let z : e - 1 ≡ i = omega (arith, (quote_ends s i e q h).0) in rw z at (string_close s i e h).2
 
 -- what holds at the closing quote, and before a character where it holds behind it, holds in all of the string
-each_char : (s : List ℕ) (e : ℕ) (P : ℕ → Type 0) → ((i : ℕ) → string_at s i ≡ Ends e → char_at s i ≡ Quote → P i)
-    → ((i v j : ℕ) → string_at s i ≡ Ends e → char_at s i ≡ Char v j → P j → P i) → (i : ℕ) → string_at s i ≡ Ends e → P i
+each_char : (s : List ℕ) (e : ℕ) (P : ℕ → Type 0) → ((i : ℕ) → string_at s i ≡ Ends e → char_at s i ≡ (Ok Quote) → P i)
+    → ((i v j : ℕ) → string_at s i ≡ Ends e → char_at s i ≡ Ok (Char v j) → P j → P i) → (i : ℕ) → string_at s i ≡ Ends e → P i
 each_char s e P last more i h = from (length s) i (omega arith) h
   where
     step : (i : ℕ) → ((j : ℕ) → i < j → string_at s j ≡ Ends e → P j) → string_at s i ≡ Ends e → (o : Step) → char_at s i ≡ o → P i
-    step i f h (Char v j) q = more i v j h q (f j (char_next s i v j q).0 (sym (string_char s i v j q) ∙ h))
-    step i f h Quote q = last i h q
+    step i f h (Ok (Char v j)) q = more i v j h q (f j (char_next s i v j q).0 (sym (string_char s i v j q) ∙ h))
+    step i f h (Ok Quote) q = last i h q
     step i f h (Refused c p) q = absurd (not_refused s i c p e q h)
 
     from : (k i : ℕ) → length s ≤ i + k → string_at s i ≡ Ends e → P i
@@ -93,7 +93,7 @@ module _ (s : List ℕ) (i e : ℕ) (h : string_at s i ≡ Ends e) where
   none f = let z = run_stop is_ordinary s i f in record { ahead = omega arith; goes-on = rw z h; copied = rw (z, part_none s i) }
 
   -- a character that is copied, and more
-  more : (v j : ℕ) → char_at s i ≡ Char v j → (byte_at s i ≡ 0x5C → ⊥) → Stretch s j e → Stretch s i e
+  more : (v j : ℕ) → char_at s i ≡ Ok (Char v j) → (byte_at s i ≡ 0x5C → ⊥) → Stretch s j e → Stretch s i e
   more v j q n r =
       let b = char_next s i v j q in
       let m = part_length s i j (omega arith) b.1 in

@@ -19,13 +19,13 @@ use Rattle.writer.specs.declared.pieces.Piece.{Piece}
 
 -- a character that an escape spells: the place behind it, and what is written for it
 abbrev pub next_of : ℕ → Step → ℕ
-next_of i (Char v j) = j
-next_of i Quote = i
+next_of i (Ok (Char v j)) = j
+next_of i (Ok Quote) = i
 next_of i (Refused c p) = i
 
 abbrev pub bytes_of : Step → List ℕ
-bytes_of (Char v j) = spell_char v
-bytes_of Quote = []
+bytes_of (Ok (Char v j)) = spell_char v
+bytes_of (Ok Quote) = []
 bytes_of (Refused c p) = []
 
 -- an escape; or the bytes that are copied, up to the next escape or the closing quote

@@ -30,6 +30,7 @@ use Rattle.marks.proofs.Facts.{name_numbers, name_named, name_entry, entries_con
 use Rattle.marks.proofs.Facts.{index_head}
 use Rattle.reader.proofs.scanning.Slices.{kept_write}
 use Rattle.reader.proofs.scanning.Told.{told_parsed}
+use Rattle.chars.specs.declared.refusals.Code.TheVariants.{Ended, NotAllowed}
 
 module _ (s : List ℕ) (o i : ℕ) where
   hashed_broken : (x : Parse Kind) {c p : ℕ} → hashed_of s o i x ≡ Broken c p → x ≡ refused c p
@@ -134,8 +135,8 @@ scan_bad : (s : List ℕ) (before : Members) (j : ℕ) (r : Scanned) (o row : �
 unfolding unexpected
 scan_bad s before j r o row ms hs₂ ms₂ = go (ltb j (length s))
   where
-    go : (b : Bool) → r ≡ scan_of (cond b (refused 3 j) (refused 2 (length s)))
-        → MemberScan s before (cond b (refused 3 j) (refused 2 (length s))) r o row ms hs₂ ms₂
+    go : (b : Bool) → r ≡ scan_of (cond b (refused NotAllowed j) (refused Ended (length s)))
+        → MemberScan s before (cond b (refused NotAllowed j) (refused Ended (length s))) r o row ms hs₂ ms₂
     go true q = q
     go false q = q
 

@@ -13,6 +13,7 @@ use Rattle.reader.specs.declared.scanning.Scanned.{Scanned}
 use Rattle.reader.specs.declared.scanning.Scanned.TheVariants.{Refused, Value}
 use Rattle.syntax.proofs.Facts.{unexpected_both}
 use Rattle.reader.proofs.scanning.Outcomes.{scan_value}
+use Rattle.chars.specs.declared.refusals.Code.TheVariants.{Ended, NotAllowed}
 
 module _ {s : List ℕ} {o : Parse Node} {row : ℕ} {ms hs₂ ms₂ : List ℕ} where
   pub told_refused : {c p : ℕ} → o ≡ refused c p → Told s o (Refused c p) row ms hs₂ ms₂
@@ -34,6 +35,6 @@ pub unexpected_then : {A B : Type 0} (s : List ℕ) (j : ℕ) (k : A → ℕ →
 unfolding unexpected
 unexpected_then {A} {B} s j k = go (ltb j (length s))
   where
-    go : (b : Bool) → then (cond b (refused 3 j) (refused 2 (length s))) k ≡ cond b (refused 3 j) (refused 2 (length s))
+    go : (b : Bool) → then (cond b (refused NotAllowed j) (refused Ended (length s))) k ≡ cond b (refused NotAllowed j) (refused Ended (length s))
     go true = refl
     go false = refl

@@ -77,7 +77,7 @@ module _ (s : List ℕ) (i : ℕ) where
     of_escape n e = piece_is (stretch_bytes s i) (rw (b, ← q)) (rw escape_bytes e)
 
     -- of a character
-    module _ {v j : ℕ} (c : o ≡ Char v j) where
+    module _ {v j : ℕ} (c : o ≡ Ok (Char v j)) where
       is_char : stretch_bytes s i ≡ spell_char v
       is_char = escape_bytes ∙ ap bytes_of c
 
@@ -93,9 +93,9 @@ module _ (s : List ℕ) (i : ℕ) where
   -- where no character stands, by the tag that the code looks at
   pub no_bytes : byte_at s i ≡ 0x5C → (o : Step) → o ≡ char_at s i → (tag_of the_type o ≡ 1) ⊎ (tag_of the_type o ≡ 2)
       → (out : List ℕ) → WritesStretch i 0 out out
-  no_bytes b (Char v j) q (inl e) out = absurd (omega arith)
-  no_bytes b (Char v j) q (inr e) out = absurd (omega arith)
-  no_bytes b Quote q h out = (of_escape b q 0 refl, rw (escape_bytes b q))
+  no_bytes b (Ok (Char v j)) q (inl e) out = absurd (omega arith)
+  no_bytes b (Ok (Char v j)) q (inr e) out = absurd (omega arith)
+  no_bytes b (Ok Quote) q h out = (of_escape b q 0 refl, rw (escape_bytes b q))
   no_bytes b (Refused c p) q h out = (of_escape b q 0 refl, rw (escape_bytes b q))
 
 -- ---- a string
@@ -153,12 +153,12 @@ module _ {s : List ℕ} {at : ℕ} where
         pub splits : spell_chars (chars_at s i) ≡ w ++ spell_chars (chars_at s j)
 
       escaped : (o : Step) → char_at s i ≡ o → Passed (next_of i o) (bytes_of o)
-      escaped (Char v j) q = record {
+      escaped (Ok (Char v j)) q = record {
         further = (char_next s i v j q).0;
         goes-on = sym (string_char s i v j q) ∙ g.goes-on;
         splits = ap spell_chars (chars_char s i v j q);
       }
-      escaped Quote q = absurd (b (quote_byte s i (string_end s at) q g.goes-on))
+      escaped (Ok Quote) q = absurd (b (quote_byte s i (string_end s at) q g.goes-on))
       escaped (Refused c p) q = absurd (not_refused s i c p (string_end s at) q g.goes-on)
 
       copied : eqb (byte_at s i) 0x5C ≡ false → Passed (ordinary_end s i) (part s i (ordinary_end s i))
