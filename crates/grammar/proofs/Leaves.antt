@@ -14,7 +14,8 @@ use Rattle.chars.specs.Bytes.{byte_at}
 use Rattle.tokens.specs.Parse.{Parse, refused, parsed, then, unexpected}
 use Rattle.tokens.specs.Space.{is_space}
 use Rattle.chars.specs.Strings.{string_at, part}
-use Rattle.tokens.specs.Tokens.{Kind, Null, False, True, Whole, Fractional, Quoted}
+use Rattle.tokens.specs.declared.tokens.Kind.{Kind}
+use Rattle.tokens.specs.declared.tokens.Kind.TheVariants.{Null, False, True, Whole, Fractional, Quoted}
 use Rattle.tokens.specs.Scalars.{first_of, word_at, quoted, scalar_by, scalar_at}
 use Rattle.tokens.specs.Spelling.{Spells}
 use Rattle.chars.specs.declared.strings.Scan.{Scan}

@@ -15,7 +15,8 @@ use Rattle.tokens.specs.Parse.{Parse, refused, parsed, then, unexpected}
 use Rattle.chars.specs.Runs.{run}
 use Rattle.chars.specs.Characters.{char_at, stop_at}
 use Rattle.chars.specs.Strings.{string_at, part}
-use Rattle.tokens.specs.Tokens.{Kind, Null, False, True, Whole, Fractional}
+use Rattle.tokens.specs.declared.tokens.Kind.{Kind}
+use Rattle.tokens.specs.declared.tokens.Kind.TheVariants.{Null, False, True, Whole, Fractional}
 use Rattle.tokens.specs.Numbers.{digits_end, whole_end, sign_end, power_at, exponent_at, fraction_at, unsigned_at, number_at}
 use Rattle.tokens.specs.Scalars.{first_of, word_at, quoted, scalar_by, scalar_at}
 use Rattle.chars.specs.declared.characters.Step.{Step}

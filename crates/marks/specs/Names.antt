@@ -2,7 +2,7 @@
 use Rattle.std.specs.Prelude.{ℕ, ◌+◌, ◌*◌, ◌/◌, ◌%◌, ◌≤◌, ◌<◌, ◌≡◌, Bool, true, false, ◌&&◌, List, length, get_or, eqb}
 use Rattle.model.specs.Text.{same}
 use Rattle.tokens.specs.Parse.{Parse, refused, parsed}
-use Rattle.tokens.specs.Tokens.{Kind}
+use Rattle.tokens.specs.declared.tokens.Kind.{Kind}
 use Rattle.chars.specs.declared.hashing.Hashed.{Hashed}
 use Rattle.chars.specs.declared.hashing.Hashed.TheVariants.{Name, Broken}
 use Rattle.chars.specs.Hashing.{hash_of, last_passing}

@@ -10,7 +10,7 @@ use borrow.Author.Tests.{ltb-true, ltb-false}
 use Rattle.chars.specs.Bytes.{byte_at}
 use Rattle.tokens.specs.Parse.{Parse, refused, parsed}
 use Rattle.tokens.specs.Space.{skip}
-use Rattle.tokens.specs.Tokens.{Kind}
+use Rattle.tokens.specs.declared.tokens.Kind.{Kind}
 use Rattle.tokens.specs.Scalars.{first_of, scalar_at}
 use Rattle.tokens.specs.Spelling.{IsQuoted}
 use Rattle.tokens.specs.declared.scalars.First.{First}
@@ -19,6 +19,7 @@ use Rattle.syntax.specs.Tree.{Node, scalar, array, object, Nodes, none, add_node
 use Rattle.syntax.specs.Grammar.{element_at, array_at, name_of, repeated, member_at, object_at, leaf_at, value_by, value_at, alone, read_text}
 use Rattle.syntax.proofs.Items.{then_both, list_keep}
 use Rattle.syntax.proofs.Values.{by_ways, leaf_parsed, element_parsed, array_parsed, member_parsed, name_parsed, object_parsed, value_takes}
+use Rattle.chars.specs.declared.refusals.Code.{Code}
 use Rattle.chars.specs.declared.refusals.Code.TheVariants.{TooLong, NotAllowed, TooDeep}
 
 -- ---- values
@@ -90,7 +91,7 @@ module _ (bytes depth : ℕ) (s : List ℕ) where
   -- the four ways of a text: too long; a value refused; something behind the value; a value alone
   pub read_ways : (P : Parse Node → Type 0)
       → (bytes < length s → P (refused TooLong bytes))
-      → ((c p : ℕ) → value_at depth s (skip s 0) ≡ refused c p → P (refused c p))
+      → ((c : Code) (p : ℕ) → value_at depth s (skip s 0) ≡ refused c p → P (refused c p))
       → ((n : Node) (e : ℕ) → Begins bytes depth s n e → skip s e < length s → P (refused NotAllowed (skip s e)))
       → ((n : Node) (e : ℕ) → Begins bytes depth s n e → length s ≤ skip s e → P (parsed n (skip s e)))
       → P (read_text bytes depth s)

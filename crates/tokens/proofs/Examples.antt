@@ -10,7 +10,8 @@ use Rattle.chars.specs.Runs.{run_from, run}
 use Rattle.tokens.specs.Space.{is_space, skip}
 use Rattle.chars.specs.Characters.{refusal_at, escape_at, char_from, char_at}
 use Rattle.chars.specs.Strings.{string_from, string_at}
-use Rattle.tokens.specs.Tokens.{Kind, Null, False, True, Whole, Fractional, Quoted}
+use Rattle.tokens.specs.declared.tokens.Kind.{Kind}
+use Rattle.tokens.specs.declared.tokens.Kind.TheVariants.{Null, False, True, Whole, Fractional, Quoted}
 use Rattle.tokens.specs.Numbers.{digits_end, whole_end, sign_end, power_at, exponent_at, fraction_at, unsigned_at, number_at}
 use Rattle.tokens.specs.Scalars.{first_of, word_at, scalar_at}
 use Rattle.chars.specs.declared.refusals.Code.TheVariants.{Ended, NotAllowed}

@@ -5,7 +5,8 @@ use Rattle.model.specs.Value.{is_digit}
 use Rattle.chars.specs.Bytes.{byte_at}
 use Rattle.tokens.specs.Parse.{Parse, refused, parsed, unexpected}
 use Rattle.chars.specs.Strings.{string_at}
-use Rattle.tokens.specs.Tokens.{Kind, Null, False, True, Quoted}
+use Rattle.tokens.specs.declared.tokens.Kind.{Kind}
+use Rattle.tokens.specs.declared.tokens.Kind.TheVariants.{Null, False, True, Quoted}
 use Rattle.tokens.specs.Numbers.{number_at}
 use Rattle.chars.specs.Refusals.{Reading}
 use Rattle.tokens.specs.declared.scalars.First.{First}

@@ -4,7 +4,8 @@ use Rattle.model.specs.Text.{text}
 use Rattle.model.specs.Value.{IsNumber, is_integer}
 use Rattle.chars.specs.Bytes.{byte_at}
 use Rattle.chars.specs.Strings.{string_at, part}
-use Rattle.tokens.specs.Tokens.{Kind, Null, False, True, Whole, Fractional, Quoted}
+use Rattle.tokens.specs.declared.tokens.Kind.{Kind}
+use Rattle.tokens.specs.declared.tokens.Kind.TheVariants.{Null, False, True, Whole, Fractional, Quoted}
 
 -- a string or a name with both its quotes, its opening one at f
 pub record IsQuoted (s : List ℕ) (f e : ℕ) : Type 0 where

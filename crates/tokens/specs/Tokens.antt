@@ -2,8 +2,8 @@
 use Rattle.std.specs.Prelude.{ℕ}
 use Rattle.chars.specs.Refusals.{Reading}
 use Rattle.tokens.specs.Parse.{Parse, reading_of}
-pub use Rattle.tokens.specs.declared.tokens.Kind.{Kind}
-pub use Rattle.tokens.specs.declared.tokens.Kind.TheVariants.{Null, False, True, Whole, Fractional, Quoted}
+use Rattle.tokens.specs.declared.tokens.Kind.{Kind}
+use Rattle.tokens.specs.declared.tokens.Kind.TheVariants.{Null, False, True, Whole, Fractional, Quoted}
 use Rattle.tokens.specs.declared.tokens.Token.{Token}
 
 -- "Kinds: 1 null, 2 false, 3 true, 4 number without fraction or exponent, 5 other number, 6 string"

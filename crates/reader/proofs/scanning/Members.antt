@@ -11,7 +11,7 @@ use lib.Seq.{slice, slice-cons}
 use Rattle.chars.specs.Bytes.{byte_at}
 use Rattle.tokens.specs.Parse.{Parse, refused, parsed, then, unexpected}
 use Rattle.tokens.specs.Space.{is_space, skip}
-use Rattle.tokens.specs.Tokens.{Kind}
+use Rattle.tokens.specs.declared.tokens.Kind.{Kind}
 use Rattle.chars.proofs.Facts.{run-from, run_within}
 use Rattle.chars.specs.declared.hashing.Hashed.{Hashed}
 use Rattle.chars.specs.declared.hashing.Hashed.TheVariants.{Name, Broken}

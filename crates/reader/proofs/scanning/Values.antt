@@ -10,7 +10,8 @@ use lib.ListN.{length, take, set}
 use lib.Seq.{slice_empty, take-set-le}
 use Rattle.chars.specs.Bytes.{byte_at}
 use Rattle.tokens.specs.Parse.{Parse, refused, parsed}
-use Rattle.tokens.specs.Tokens.{Kind, Whole}
+use Rattle.tokens.specs.declared.tokens.Kind.{Kind}
+use Rattle.tokens.specs.declared.tokens.Kind.TheVariants.{Whole}
 use Rattle.tokens.specs.Scalars.{first_of, scalar_at}
 use Rattle.tokens.specs.declared.scalars.First.{First}
 use Rattle.tokens.specs.declared.scalars.First.TheVariants.{Array, Object, Number}

@@ -8,7 +8,9 @@ use Rattle.std.specs.Prelude.{Ok}
 use Rattle.chars.specs.Refusals.{Reading}
 use Rattle.tokens.specs.declared.tokens.Token.{Token}
 use Rattle.tokens.specs.Parse.{unexpected}
-use Rattle.tokens.specs.Tokens.{Kind, Whole, Fractional, token, token_of}
+use Rattle.tokens.specs.declared.tokens.Kind.{Kind}
+use Rattle.tokens.specs.declared.tokens.Kind.TheVariants.{Whole, Fractional}
+use Rattle.tokens.specs.Tokens.{token, token_of}
 use Rattle.tokens.specs.Numbers.{digits_end, whole_end, sign_end, power_at, exponent_at, fraction_at, unsigned_at, number_at}
 
 module _ (s : List ℕ) (i : ℕ) {b : ℕ} (read : b ≡ byte_at s i) where

@@ -19,7 +19,8 @@ use Rattle.tokens.specs.declared.scalars.First.TheVariants.{Array, Object, Quote
 use Rattle.chars.specs.Bytes.{byte_at}
 use Rattle.tokens.specs.Parse.{Parse, refused, parsed, unexpected}
 use Rattle.chars.specs.Strings.{string_from, string_at, chars_at, characters, part}
-use Rattle.tokens.specs.Tokens.{Kind, Null, False, True, Whole}
+use Rattle.tokens.specs.declared.tokens.Kind.{Kind}
+use Rattle.tokens.specs.declared.tokens.Kind.TheVariants.{Null, False, True, Whole}
 use Rattle.tokens.specs.Numbers.{digits_end, whole_end, exponent_at, fraction_at, unsigned_at, number_at}
 use Rattle.tokens.specs.Scalars.{first_of, word_at, quoted, scalar_by, scalar_at}
 use Rattle.tokens.specs.Spelling.{Spells, IsQuoted}

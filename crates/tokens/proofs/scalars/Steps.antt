@@ -12,7 +12,9 @@ use Rattle.std.specs.Prelude.{Ok, Err}
 use Rattle.chars.specs.Refusals.{Reading}
 use Rattle.chars.specs.declared.refusals.Refusal.{Refusal}
 use Rattle.chars.specs.Strings.{string_at}
-use Rattle.tokens.specs.Tokens.{Kind, Quoted, token, token_of}
+use Rattle.tokens.specs.declared.tokens.Kind.{Kind}
+use Rattle.tokens.specs.declared.tokens.Kind.TheVariants.{Quoted}
+use Rattle.tokens.specs.Tokens.{token, token_of}
 use Rattle.tokens.specs.Integers.{minus_end, digits_from, integer_end}
 use Rattle.tokens.specs.Scalars.{word_at, quoted}
 
