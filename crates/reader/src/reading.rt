@@ -5,9 +5,10 @@ ghost use Rattle.syntax.specs.Answer.{document_limits, read_within, answer_of, t
 ghost use Rattle.reader.specs.Scanning.{scan_of, Ready};
 
 use crate::scanning::{Scanned, value};
+use chars::{Code, Reading};
 use marks::fill;
 use syntax::{Answer, Limits, ROW_WORDS};
-use tokens::{first_at, skip};
+use tokens::{first_at, skip, unexpected};
 
 // Both passes over a whole text, in the working room given.
 fn read_in(
@@ -16,29 +17,28 @@ fn read_in(
     heads: &mut [u16],
     marks: &mut [u64],
     table: &mut [u32],
-) -> Scanned
+) -> Reading<Scanned>
     requires { Ready text.now heads.old marks.old depth 0 0 }
     ensures scans { result ≡ scan_of (whole_at depth text.now) }
     ensures rows { table.new ≡ table_of table.old (whole_at depth text.now) }
 {
     let start = skip(text, 0);
-    match value(first_at(text, start), text, heads, marks, 0, start, depth) {
-        Scanned::Refused { code, place } => Scanned::Refused { code, place },
-        Scanned::Value { end, rows } => {
-            let j = skip(text, end);
-            if j < text.len() {
-                return Scanned::Refused { code: 3, place: j };
-            }
-            if rows <= table.len() / ROW_WORDS {
-                fill(marks, table, rows);
-            }
-            Scanned::Value { end: j, rows }
-        }
+    let scanned = value(first_at(text, start), text, heads, marks, 0, start, depth)?;
+    let end = skip(text, scanned.end);
+    if end < text.len() {
+        return Err(unexpected(text, end));
     }
+    if scanned.rows <= table.len() / ROW_WORDS {
+        fill(marks, table, scanned.rows);
+    }
+    Ok(Scanned {
+        end,
+        rows: scanned.rows,
+    })
 }
 
 // Both passes over a text of at most 128 bytes, with room for no more, since all of it is cleared.
-fn read_128(text: &[u8], depth: usize, table: &mut [u32]) -> Scanned
+fn read_128(text: &[u8], depth: usize, table: &mut [u32]) -> Reading<Scanned>
     requires { (length text.now ≤ 128) × (depth ≤ 32) }
     ensures scans { result ≡ scan_of (whole_at depth text.now) }
     ensures rows { table.new ≡ table_of table.old (whole_at depth text.now) }
@@ -49,7 +49,7 @@ fn read_128(text: &[u8], depth: usize, table: &mut [u32]) -> Scanned
 }
 
 // The same of at most 1,024 bytes.
-fn read_1024(text: &[u8], depth: usize, table: &mut [u32]) -> Scanned
+fn read_1024(text: &[u8], depth: usize, table: &mut [u32]) -> Reading<Scanned>
     requires { (length text.now ≤ 1024) × (depth ≤ 32) }
     ensures scans { result ≡ scan_of (whole_at depth text.now) }
     ensures rows { table.new ≡ table_of table.old (whole_at depth text.now) }
@@ -60,7 +60,7 @@ fn read_1024(text: &[u8], depth: usize, table: &mut [u32]) -> Scanned
 }
 
 // The same of at most 8,192 bytes.
-fn read_8192(text: &[u8], depth: usize, table: &mut [u32]) -> Scanned
+fn read_8192(text: &[u8], depth: usize, table: &mut [u32]) -> Reading<Scanned>
     requires { (length text.now ≤ 8192) × (depth ≤ 32) }
     ensures scans { result ≡ scan_of (whole_at depth text.now) }
     ensures rows { table.new ≡ table_of table.old (whole_at depth text.now) }
@@ -71,7 +71,7 @@ fn read_8192(text: &[u8], depth: usize, table: &mut [u32]) -> Scanned
 }
 
 // The same of at most 32,768 bytes.
-fn read_32768(text: &[u8], depth: usize, table: &mut [u32]) -> Scanned
+fn read_32768(text: &[u8], depth: usize, table: &mut [u32]) -> Reading<Scanned>
     requires { (length text.now ≤ 32768) × (depth ≤ 32) }
     ensures scans { result ≡ scan_of (whole_at depth text.now) }
     ensures rows { table.new ≡ table_of table.old (whole_at depth text.now) }
@@ -82,7 +82,7 @@ fn read_32768(text: &[u8], depth: usize, table: &mut [u32]) -> Scanned
 }
 
 // The same of at most 65,536 bytes.
-fn read_65536(text: &[u8], depth: usize, table: &mut [u32]) -> Scanned
+fn read_65536(text: &[u8], depth: usize, table: &mut [u32]) -> Reading<Scanned>
     requires { (length text.now ≤ 65536) × (depth ≤ 32) }
     ensures scans { result ≡ scan_of (whole_at depth text.now) }
     ensures rows { table.new ≡ table_of table.old (whole_at depth text.now) }
@@ -94,7 +94,7 @@ fn read_65536(text: &[u8], depth: usize, table: &mut [u32]) -> Scanned
 
 // Both passes over a whole text, in room by its length. More brackets than a document's count as a document's.
 // Since it calls itself, the compiler keeps the rooms apart: a short text does not pay for the frame of a long one.
-fn read_whole(text: &[u8], depth: usize, table: &mut [u32]) -> Scanned
+fn read_whole(text: &[u8], depth: usize, table: &mut [u32]) -> Reading<Scanned>
     requires { length text.now ≤ 65536 }
     ensures scans { result ≡ scan_of (whole_at (min depth 32) text.now) }
     ensures rows { table.new ≡ table_of table.old (whole_at (min depth 32) text.now) }
@@ -135,13 +135,13 @@ pub fn read_within(limits: Limits, which: u32, text: &[u8], table: &mut [u32]) -
         );
     }
     if text.len() > limits.bytes as usize {
-        return Answer::new(1, which, limits.bytes, 0);
+        return Answer::new(u32::from(Code::TooLong), which, limits.bytes, 0);
     }
     match read_whole(text, limits.depth as usize, table) {
-        Scanned::Refused { code, place } => Answer::new(code, which, place as u32, 0),
-        Scanned::Value { end: _, rows } => {
-            let needed = rows as u32;
-            if rows > table.len() / ROW_WORDS {
+        Err(refusal) => Answer::new(u32::from(refusal.code), which, refusal.place as u32, 0),
+        Ok(scanned) => {
+            let needed = scanned.rows as u32;
+            if scanned.rows > table.len() / ROW_WORDS {
                 return Answer::new(8, which, 0, needed);
             }
             Answer::new(0, 0, 0, needed)

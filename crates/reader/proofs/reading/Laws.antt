@@ -19,11 +19,14 @@ use Rattle.marks.specs.Filling.{mark_words, FillReady}
 use Rattle.reader.specs.Scanning.{scan_of, Ready, Marked, Told}
 use Rattle.syntax.specs.declared.answers.Answer.{Answer}
 use Rattle.reader.specs.declared.scanning.Scanned.{Scanned}
-use Rattle.reader.specs.declared.scanning.Scanned.TheVariants.{Refused, Value}
 use Rattle.syntax.proofs.Facts.{value_takes}
 use Rattle.reader.proofs.scanning.Outcomes.{scan_refused, scan_value, answer_refused, answer_full, answer_read}
 use Rattle.marks.proofs.Facts.{nothing_unnamed, index_fresh, tree_words, tree_fills}
 use Rattle.syntax.proofs.Theorems.{read_code, read_rows}
+use Rattle.std.specs.Prelude.{Ok, Err}
+use Rattle.chars.specs.Refusals.{number, refusal, Reading}
+use Rattle.chars.specs.declared.refusals.Refusal.{Refusal}
+use Rattle.reader.specs.Scanning.{scanned}
 
 -- ---- both passes
 
@@ -46,14 +49,14 @@ fresh s k m d h g l =
     }
 
 -- what is promised of both passes with the outcome o, and a table t that is t₂ afterwards
-abbrev pub Passed : Parse Node → Scanned → List ℕ → List ℕ → Type 0
+abbrev pub Passed : Parse Node → Reading Scanned → List ℕ → List ℕ → Type 0
 Passed o r t t₂ = (r ≡ scan_of o) × (t₂ ≡ table_of t o)
 
-refused_passed : {o : Parse Node} {c p : ℕ} (t : List ℕ) → o ≡ refused c p → Passed o (Refused c p) t t
+refused_passed : {o : Parse Node} {bad : Refusal} (t : List ℕ) → o ≡ refused bad.code bad.place → Passed o (Err bad) t t
 refused_passed {o} {c} {p} t q = rw q (refl, sym (answer_refused 0 c p t).1)
 
 -- more brackets than a document's count as a document's
-module _ {r : Scanned} (d : ℕ) (s t t₂ : List ℕ) where
+module _ {r : Reading Scanned} (d : ℕ) (s t t₂ : List ℕ) where
   pub within_document : Passed (whole_at d s) r t t₂ → d ≤ 32 → Passed (whole_at (min d 32) s) r t t₂
   within_document p h = rw (min-eq_left h) p
 
@@ -71,7 +74,7 @@ ready {s} z h = record {
 }
 
 -- r is what the first pass tells of that value
-pub record Over (d : ℕ) (s hs ms : List ℕ) (r : Scanned) (hs₂ ms₂ : List ℕ) : Type 0 where
+pub record Over (d : ℕ) (s hs ms : List ℕ) (r : Reading Scanned) (hs₂ ms₂ : List ℕ) : Type 0 where
   pub given : Ready s hs ms d 0 0
   pub place : ℕ
   pub begins : place ≡ skip s 0
@@ -89,16 +92,16 @@ pub record ValueRead (d : ℕ) (s ms₂ : List ℕ) (k j : ℕ) : Type 0 where
   pub small : k ≤ 65536
   pub behind : j ≡ skip s end
 
-module _ {d : ℕ} {s hs ms : List ℕ} {r : Scanned} {hs₂ ms₂ : List ℕ} (o : Over d s hs ms r hs₂ ms₂) where
+module _ {d : ℕ} {s hs ms : List ℕ} {r : Reading Scanned} {hs₂ ms₂ : List ℕ} (o : Over d s hs ms r hs₂ ms₂) where
   -- by the place as the definition has it
   here : Told s (value_at d s (skip s 0)) r 0 ms hs₂ ms₂
   here = rw (← o.begins) o.told
 
-  pub passed_refused : (t : List ℕ) {c p : ℕ} → r ≡ Refused c p → Passed (whole_at d s) (Refused c p) t t
+  pub passed_refused : (t : List ℕ) {bad : Refusal} → r ≡ Err bad → Passed (whole_at d s) (Err bad) t t
   passed_refused t e =
       let v = scan_refused (value_at d s (skip s 0)) (sym here.scan ∙ e) in refused_passed {o = whole_at d s} t (rw v)
 
-  pub value-read : {e k j : ℕ} → r ≡ Value e k → j ≡ skip s e → ValueRead d s ms₂ k j
+  pub value-read : {e k j : ℕ} → r ≡ Ok (scanned e k) → j ≡ skip s e → ValueRead d s ms₂ k j
   value-read {e} {k} v y =
       let n = scan_value (value_at d s (skip s 0)) (sym here.scan ∙ v) in
       let m : Marked s n.0 0 ms hs₂ ms₂ = rw n.1 at here.after in
@@ -122,7 +125,7 @@ module _ {d : ℕ} {s ms₂ : List ℕ} {k j : ℕ} (v : ValueRead d s ms₂ k j
       rw (← z) (tree_fills ms₂ v.tree (rw z v.few) (rw z v.rows) (rw z v.small))
 
 module _ {d : ℕ} {s ms₂ : List ℕ} {k j : ℕ} (v : ValueRead d s ms₂ k j) (t : List ℕ) where
-  pub passed_behind : j < length s → Passed (whole_at d s) (Refused 3 j) t t
+  pub passed_behind : j < length s → Passed (whole_at d s) (Err (refusal NotAllowed j)) t t
   unfolding alone
   passed_behind l = refused_passed {o = whole_at d s} t (rw (v.reads, ← v.behind, lt-ltb j (length s) l))
 
@@ -131,10 +134,10 @@ module _ {d : ℕ} {s ms₂ : List ℕ} {k j : ℕ} (v : ValueRead d s ms₂ k j
     unfolding alone
     whole = rw (v.reads, ← v.behind, le-ltb j (length s) l)
 
-    scanned : Value j k ≡ scan_of (whole_at d s)
+    scanned : Ok (scanned j k) ≡ scan_of (whole_at d s)
     scanned = sym (ap scan_of whole ∙ ap (Value j) v.sized)
 
-    pub passed_full : roomIn (length t) < k → Passed (whole_at d s) (Value j k) t t
+    pub passed_full : roomIn (length t) < k → Passed (whole_at d s) (Ok (scanned j k)) t t
     passed_full m = (scanned, sym (ap (table_of t) whole ∙ (answer_full 0 t v.tree j (rw v.sized m)).1))
 
     -- its rows are those of its marks
@@ -143,7 +146,7 @@ module _ {d : ℕ} {s ms₂ : List ℕ} {k j : ℕ} (v : ValueRead d s ms₂ k j
         let z = v.sized in
         rw (← z) (tree_words ms₂ v.tree (rw z v.few) (rw z v.rows))
 
-    pub passed_read : k ≤ roomIn (length t) → {t₂ : List ℕ} → t₂ ≡ sets t 0 (mark_words ms₂ k) → Passed (whole_at d s) (Value j k) t t₂
+    pub passed_read : k ≤ roomIn (length t) → {t₂ : List ℕ} → t₂ ≡ sets t 0 (mark_words ms₂ k) → Passed (whole_at d s) (Ok (scanned j k)) t t₂
     passed_read m w =
         (scanned, w ∙ ap (sets t 0) laid ∙ sym (ap (table_of t) whole ∙ (answer_read 0 t v.tree j (rw v.sized m)).1))
 
@@ -165,13 +168,13 @@ done_over which bytes d s t b h e =
     let x = answer_refused which 1 bytes t in rw (min-eq_left b, lt-ltb bytes (length s) h) (e ∙ sym x.0, sym x.1)
 
 -- both passes are over a text within limits
-pub record TextRead (bytes d : ℕ) (s t : List ℕ) (r : Scanned) (t₂ : List ℕ) : Type 0 where
+pub record TextRead (bytes d : ℕ) (s t : List ℕ) (r : Reading Scanned) (t₂ : List ℕ) : Type 0 where
   pub limit : bytes ≤ 65536
   pub short : length s ≤ bytes
   pub passed : Passed (whole_at d s) r t t₂
   pub same : length t₂ ≡ length t
 
-module _ {bytes d : ℕ} {s t : List ℕ} {r : Scanned} {t₂ : List ℕ} (h : TextRead bytes d s t r t₂) where
+module _ {bytes d : ℕ} {s t : List ℕ} {r : Reading Scanned} {t₂ : List ℕ} (h : TextRead bytes d s t r t₂) where
   within : read_text (min bytes 65536) d s ≡ whole_at d s
   unfolding read_text
   within = rw (min-eq_left h.limit, le-ltb bytes (length s) h.short)
@@ -180,7 +183,7 @@ module _ {bytes d : ℕ} {s t : List ℕ} {r : Scanned} {t₂ : List ℕ} (h : T
       → Done which (read_text (min bytes 65536) d s) a t t₂
   done which o q x = (x ∙ ap (answer_of which (length t)) (sym q), h.passed.1 ∙ ap (table_of t) (sym within))
 
-  module _ {c p : ℕ} (e : r ≡ Refused c p) where
+  module _ {bad : Refusal} (e : r ≡ Err bad) where
     outcome : read_text (min bytes 65536) d s ≡ refused c p
     outcome = within ∙ scan_refused (whole_at d s) (sym h.passed.0 ∙ e)
 
@@ -190,7 +193,7 @@ module _ {bytes d : ℕ} {s t : List ℕ} {r : Scanned} {t₂ : List ℕ} (h : T
     pub done_refused : (which : ℕ) {a : Answer} → a ≡ answer c which p 0 → Done which (read_text (min bytes 65536) d s) a t t₂
     done_refused which x = done which (refused c p) outcome (x ∙ sym (answer_refused which c p t).0)
 
-  module _ {e k : ℕ} (v : r ≡ Value e k) where
+  module _ {e k : ℕ} (v : r ≡ Ok (scanned e k)) where
     abbrev tree : (n : Node) × (whole_at d s ≡ parsed n e) × (size n ≡ k)
     tree = scan_value (whole_at d s) (sym h.passed.0 ∙ v)
 
