@@ -29,6 +29,14 @@ pub record Room (s ms : List ℕ) : Type 0 where
   pub short : length s ≤ 65536
   pub rows : length s + 33 ≤ 2 * length ms
 
+-- room of h heads and m marks, all of it cleared, can hold the text's rows
+pub record CanHold (h m : ℕ) (s : List ℕ) : Type 0 where
+  pub short : length s ≤ 65536
+  pub rows : length s + 33 ≤ 2 * m
+  pub some : 0 < h
+  pub few : h ≤ 65536
+  pub marked : m ≤ 65536
+
 -- a value at a place that holds no other, with a mark free at `row`
 pub record LeafReady (s ms : List ℕ) (row i : ℕ) : Type 0 where
   pub short : length s ≤ 65536

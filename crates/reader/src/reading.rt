@@ -2,7 +2,7 @@
 ghost use Rattle.std.specs.Prelude.{◌≡◌, min, ◌≤◌, length};
 ghost use Rattle.syntax.specs.Grammar.{whole_at};
 ghost use Rattle.syntax.specs.Answer.{document_limits, read_within, answer_of, table_of};
-ghost use Rattle.reader.specs.Scanning.{scan_of, Ready};
+ghost use Rattle.reader.specs.Scanning.{scan_of, CanHold, Ready};
 
 use crate::scanning::{Scanned, value};
 use chars::{Code, Reading};
@@ -37,85 +37,38 @@ fn read_in(
     })
 }
 
-// Both passes over a text of at most 128 bytes, with room for no more, since all of it is cleared.
-fn read_128(text: &[u8], depth: usize, table: &mut [u32]) -> Reading<Scanned>
-    requires { (length text.now ≤ 128) × (depth ≤ 32) }
+// Both passes over a text, in cleared room of so many words. All of it is cleared, so a short text is given less; and each
+// room has a frame of its own, so that a short text does not pay for that of a long one.
+#[inline(never)]
+fn read_in_room<const HEADS: usize, const MARKS: usize>(
+    text: &[u8],
+    depth: usize,
+    table: &mut [u32],
+) -> Reading<Scanned>
+    requires room { CanHold HEADS MARKS text.now }
+    requires brackets { depth ≤ 32 }
     ensures scans { result ≡ scan_of (whole_at depth text.now) }
     ensures rows { table.new ≡ table_of table.old (whole_at depth text.now) }
 {
-    let mut heads = [0u16; 32];
-    let mut marks = [0u64; 81];
-    read_in(text, depth, &mut heads, &mut marks, table)
-}
-
-// The same of at most 1,024 bytes.
-fn read_1024(text: &[u8], depth: usize, table: &mut [u32]) -> Reading<Scanned>
-    requires { (length text.now ≤ 1024) × (depth ≤ 32) }
-    ensures scans { result ≡ scan_of (whole_at depth text.now) }
-    ensures rows { table.new ≡ table_of table.old (whole_at depth text.now) }
-{
-    let mut heads = [0u16; 256];
-    let mut marks = [0u64; 529];
-    read_in(text, depth, &mut heads, &mut marks, table)
-}
-
-// The same of at most 8,192 bytes.
-fn read_8192(text: &[u8], depth: usize, table: &mut [u32]) -> Reading<Scanned>
-    requires { (length text.now ≤ 8192) × (depth ≤ 32) }
-    ensures scans { result ≡ scan_of (whole_at depth text.now) }
-    ensures rows { table.new ≡ table_of table.old (whole_at depth text.now) }
-{
-    let mut heads = [0u16; 2048];
-    let mut marks = [0u64; 4113];
-    read_in(text, depth, &mut heads, &mut marks, table)
-}
-
-// The same of at most 32,768 bytes.
-fn read_32768(text: &[u8], depth: usize, table: &mut [u32]) -> Reading<Scanned>
-    requires { (length text.now ≤ 32768) × (depth ≤ 32) }
-    ensures scans { result ≡ scan_of (whole_at depth text.now) }
-    ensures rows { table.new ≡ table_of table.old (whole_at depth text.now) }
-{
-    let mut heads = [0u16; 8192];
-    let mut marks = [0u64; 16401];
-    read_in(text, depth, &mut heads, &mut marks, table)
-}
-
-// The same of at most 65,536 bytes.
-fn read_65536(text: &[u8], depth: usize, table: &mut [u32]) -> Reading<Scanned>
-    requires { (length text.now ≤ 65536) × (depth ≤ 32) }
-    ensures scans { result ≡ scan_of (whole_at depth text.now) }
-    ensures rows { table.new ≡ table_of table.old (whole_at depth text.now) }
-{
-    let mut heads = [0u16; 16384];
-    let mut marks = [0u64; 32785];
+    let mut heads = [0u16; HEADS];
+    let mut marks = [0u64; MARKS];
     read_in(text, depth, &mut heads, &mut marks, table)
 }
 
 // Both passes over a whole text, in room by its length. More brackets than a document's count as a document's.
-// Since it calls itself, the compiler keeps the rooms apart: a short text does not pay for the frame of a long one.
 fn read_whole(text: &[u8], depth: usize, table: &mut [u32]) -> Reading<Scanned>
     requires { length text.now ≤ 65536 }
     ensures scans { result ≡ scan_of (whole_at (min depth 32) text.now) }
     ensures rows { table.new ≡ table_of table.old (whole_at (min depth 32) text.now) }
 {
-    if depth > 32 {
-        return read_whole(text, 32, table);
+    let depth = depth.min(32);
+    match text.len() {
+        0..=128 => read_in_room::<32, 81>(text, depth, table),
+        129..=1024 => read_in_room::<256, 529>(text, depth, table),
+        1025..=8192 => read_in_room::<2048, 4113>(text, depth, table),
+        8193..=32768 => read_in_room::<8192, 16401>(text, depth, table),
+        _ => read_in_room::<16384, 32785>(text, depth, table),
     }
-    let n = text.len();
-    if n <= 128 {
-        return read_128(text, depth, table);
-    }
-    if n <= 1024 {
-        return read_1024(text, depth, table);
-    }
-    if n <= 8192 {
-        return read_8192(text, depth, table);
-    }
-    if n <= 32768 {
-        return read_32768(text, depth, table);
-    }
-    read_65536(text, depth, table)
 }
 
 // Reads text number `which` of a service within limits, and writes its rows. Limits above a document's count as a document's.
@@ -123,19 +76,9 @@ pub fn read_within(limits: Limits, which: u32, text: &[u8], table: &mut [u32]) -
     ensures answers { result ≡ answer_of which (length table.old) (read_within limits text.now) }
     ensures rows { table.new ≡ table_of table.old (read_within limits text.now) }
 {
-    if limits.bytes > 65536 {
-        return read_within(
-            Limits {
-                bytes: 65536,
-                depth: limits.depth,
-            },
-            which,
-            text,
-            table,
-        );
-    }
-    if text.len() > limits.bytes as usize {
-        return Answer::new(u32::from(Code::TooLong), which, limits.bytes, 0);
+    let bytes = limits.bytes.min(65536);
+    if text.len() > bytes as usize {
+        return Answer::new(u32::from(Code::TooLong), which, bytes, 0);
     }
     match read_whole(text, limits.depth as usize, table) {
         Err(refusal) => Answer::new(u32::from(refusal.code), which, refusal.place as u32, 0),

@@ -5,7 +5,7 @@ ghost use Rattle.tokens.specs.Tokens.{token_of};
 ghost use Rattle.tokens.specs.Numbers.{digits_end, whole_end, sign_end, power_at, exponent_at, fraction_at, unsigned_at, number_at};
 
 use crate::tokens::{Kind, Token, unexpected};
-use chars::{Reading, peek};
+use chars::{Reading, peek, run_end};
 
 fn is_digit(b: u8) -> bool
     ensures { result ≡ is_digit b }
@@ -20,14 +20,7 @@ fn is_digit(b: u8) -> bool
 pub fn digits(text: &[u8], at: usize) -> usize
     ensures { result ≡ digits_end text.now at }
 {
-    let mut i = at;
-    while i < text.len() {
-        if !is_digit(text[i]) {
-            return i;
-        }
-        i += 1;
-    }
-    i
+    run_end(text, at, is_digit)
 }
 
 // The place behind the integer part at a place.
