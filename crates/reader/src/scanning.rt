@@ -17,13 +17,7 @@ pub struct Scanned {
 }
 
 // The value at a place that holds no other, by what it begins with.
-fn leaf(
-    first: First,
-    text: &[u8],
-    marks: &mut [u64],
-    row: usize,
-    at: usize,
-) -> Reading<Scanned>
+fn leaf(first: First, text: &[u8], marks: &mut [u64], row: usize, at: usize) -> Reading<Scanned>
     requires { LeafReady text.now marks.old row at × Begun text.now at first }
     ensures { LeafTold (leaf_at text.now at) result row marks.old marks.new }
 {
@@ -190,8 +184,8 @@ fn array(
             Following::Item { at: next } => {
                 i = next;
             }
-            Following::Other { at: j } => {
-                return Err(unexpected(text, j));
+            Following::Other { at: other } => {
+                return Err(unexpected(text, other));
             }
         }
     }
@@ -213,11 +207,11 @@ fn member(
 {
     let named = name(text, heads, marks, object, at)?;
     push(heads, marks, row, at, named.end, named.hash as usize);
-    let j = skip_to(text, named.end, b':');
-    if peek(text, j) != b':' {
-        return Err(unexpected(text, j));
+    let colon = skip_to(text, named.end, b':');
+    if peek(text, colon) != b':' {
+        return Err(unexpected(text, colon));
     }
-    let k = skip(text, j + 1);
+    let k = skip(text, colon + 1);
     let scanned = item(text, heads, marks, row + 1, k, depth)?;
     Ok(Scanned {
         end: scanned.end,

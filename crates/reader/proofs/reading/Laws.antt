@@ -119,9 +119,11 @@ module _ {d : ℕ} {s ms₂ : List ℕ} {k j : ℕ} (v : ValueRead d s ms₂ k j
       rw (← z) (tree_fills ms₂ v.tree (rw z v.few) (rw z v.rows) (rw z v.small))
 
 module _ {d : ℕ} {s ms₂ : List ℕ} {k j : ℕ} (v : ValueRead d s ms₂ k j) (t : List ℕ) where
-  pub passed_behind : j < length s → Passed (whole_at d s) (Err (refusal NotAllowed j)) t t
-  unfolding alone
-  passed_behind l = refused_passed {o = whole_at d s} t (rw (v.reads, ← v.behind, lt-ltb j (length s) l))
+  pub passed_behind : {bad : Refusal} → bad ≡ refusal_at s j NotAllowed → j < length s → Passed (whole_at d s) (Err bad) t t
+  unfolding alone refusal_at
+  passed_behind {bad} e l =
+      let z : bad ≡ refusal NotAllowed j = e ∙ rw (lt-ltb j (length s) l) refl in
+      rw z (refused_passed {o = whole_at d s} t (rw (v.reads, ← v.behind, lt-ltb j (length s) l)))
 
   module _ (l : length s ≤ j) where
     whole : whole_at d s ≡ parsed v.tree j

@@ -14,25 +14,25 @@ over c = record {
 
 pub returns-then-text-bytes : goal.returns-then-text-bytes
 returns-then-text-bytes c =
-    let w = done_over _ c.args.limits _ _ c.min-bytes.ensures c.if-text-bytes.true c.new.ensures in record { answers = w.0; rows = w.1 }
-
-pub overflow_cast-place : goal.overflow_cast-place
-overflow_cast-place c = omega (arith, refused_place (over (goal.at.overflow_cast-place c).After-read_whole) c.in-Refused.is)
+    let w = done_over _ c.args.limits _ _ c.min-bytes.ensures c.if-text-bytes.true (rw c.from.ensures at c.new.ensures) in record { answers = w.0; rows = w.1 }
 
 pub overflow_cast-needed : goal.overflow_cast-needed
-overflow_cast-needed c = omega (arith, rows_few (over (goal.at.overflow_cast-needed c).After-read_whole) c.in-Value.is)
+overflow_cast-needed c = omega (arith, rows_few (over (goal.at.overflow_cast-needed c).After-read_whole) c.in-Ok.is)
 
-pub returns-then-rows-table : goal.returns-then-rows-table
-returns-then-rows-table c =
-    let w = done_full (over (goal.at.returns-then-rows-table c).After-read_whole) c.in-Value.is _ (omega arith) c.new-then-rows-table.ensures in
+pub overflow_cast-refusal : goal.overflow_cast-refusal
+overflow_cast-refusal c = omega (arith, refused_place (over (goal.at.overflow_cast-refusal c).After-read_whole) c.in-Err.is)
+
+pub returns-then-scanned-table : goal.returns-then-scanned-table
+returns-then-scanned-table c =
+    let w = done_full (over (goal.at.returns-then-scanned-table c).After-read_whole) c.in-Ok.is _ (omega arith) c.new-then-scanned-table.ensures in
     record { answers = w.0; rows = w.1 }
 
-pub returns-in-Refused : goal.returns-in-Refused
-returns-in-Refused c =
-    let w = done_refused (over (goal.at.returns-in-Refused c).After-read_whole) c.in-Refused.is _ c.new-in-Refused.ensures in
+pub returns-in-Err : goal.returns-in-Err
+returns-in-Err c =
+    let w = done_refused (over (goal.at.returns-in-Err c).After-read_whole) c.in-Err.is _ (rw c.from-in-Err.ensures at c.new-in-Err.ensures) in
     record { answers = w.0; rows = w.1 }
 
-pub returns-else-rows-table : goal.returns-else-rows-table
-returns-else-rows-table c =
-    let w = done_read (over (goal.at.returns-else-rows-table c).After-read_whole) c.in-Value.is _ (omega arith) c.new-in-Value.ensures in
+pub returns-else-scanned-table : goal.returns-else-scanned-table
+returns-else-scanned-table c =
+    let w = done_read (over (goal.at.returns-else-scanned-table c).After-read_whole) c.in-Ok.is _ (omega arith) c.new-in-Ok.ensures in
     record { answers = w.0; rows = w.1 }
