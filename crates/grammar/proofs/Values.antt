@@ -56,7 +56,7 @@ module _ (s : List ℕ) where
   by_sound d i a o l Other q g h = leaf_sound_as d i l
 
   -- one bracket too many: another value can stand there
-  too_deep : (d i : ℕ) → i < length s → Begun (TrimmedValue d) s i i × Stop s 7 i
+  too_deep : (d i : ℕ) → i < length s → Begun (TrimmedValue d) s i i × Stop s TooDeep i
   too_deep d i l = (begun_none (TrimmedValue d) s i (text "null") null (omega arith) (leaf_value d (text "null") null refl), inr (omega arith, l))
 
   element_sound : (d : ℕ) (v : ℕ → Parse Node) → ((i : ℕ) → i ≤ length s → IsSound d i (v i)) → (before : Nodes) (i : ℕ) → i ≤ length s
