@@ -10,7 +10,7 @@ pub use Rattle.chars.proofs.hashing.Last.{last_before, last_found, last_here, la
 pub use Rattle.chars.proofs.characters.Laws.{Scalar}
 pub use Rattle.chars.proofs.plain.Laws.{digit_read}
 -- strings: a character at a time, where they end, and what stands in them
-pub use Rattle.chars.proofs.strings.Laws.{ScanAhead, char_next, chars_char, chars_none, chars_step, string_ahead, string_bounds}
+pub use Rattle.chars.proofs.strings.Laws.{char_read, ScanAhead, char_next, chars_char, chars_none, chars_step, string_ahead, string_bounds}
 pub use Rattle.chars.proofs.strings.Laws.{string_char, string_close, string_quote, string_stop}
 pub use Rattle.chars.proofs.strings.Meaning.{Scalars, same_true, scalars}
 pub use Rattle.chars.proofs.strings.Parts.{body_characters}

@@ -22,6 +22,7 @@ use Rattle.grammar.proofs.Facts.{three_bits, four_bits, utf8_only, At, Spelled, 
 use Rattle.grammar.proofs.Facts.{char_good, lang_char}
 use Rattle.writer.specs.Spell.{is_escaped, letter_of, spell_char}
 use Rattle.writer.specs.Runs.{is_ordinary}
+use Rattle.std.specs.Prelude.{Ok}
 
 -- ---- characters that are not escaped
 

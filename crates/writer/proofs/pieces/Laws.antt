@@ -11,15 +11,13 @@ use borrow.Rule.Slice.PartMut.{mid_of, put_mid}
 use borrow.Author.Tests.{ne_eqb, eqb-false}
 use Rattle.model.proofs.Basics.{by_test}
 use Rattle.chars.specs.Bytes.{byte_at}
-use mathlib.Core.Logic.{◌⊎◌, inl, inr}
-use denote.Enum.Declared.{tag_of}
-use Rattle.chars.specs.contracts.characters.Step.{the_type}
 use Rattle.chars.specs.declared.characters.Step.{Step}
 use Rattle.chars.specs.declared.characters.Step.TheVariants.{Char, Quote}
-use Rattle.chars.specs.Characters.{char_at}
+use Rattle.chars.specs.declared.characters.Character.{Character}
+use Rattle.chars.specs.Characters.{char_at, character_in, character_at}
 use Rattle.chars.specs.Strings.{string_at, chars_at, part}
 use Rattle.tokens.specs.Spelling.{IsQuoted}
-use Rattle.chars.proofs.Facts.{run_next, run-from, char_next, string_bounds, string_char, chars_char}
+use Rattle.chars.proofs.Facts.{run_next, run-from, char_next, char_read, string_bounds, string_char, chars_char}
 use Rattle.tokens.proofs.Facts.{part_one}
 use Rattle.grammar.proofs.Facts.{char_quote}
 use Rattle.writer.specs.Spell.{spell_char, spell_chars}
@@ -31,7 +29,7 @@ use Rattle.writer.proofs.runs.Laws.{run_length, run_room}
 use Rattle.writer.proofs.Over.{over_as, over_first, Wrote, wrote_byte, wrote_length, left_length, wrote_more, wrote_last}
 use Rattle.writer.proofs.Copied.{ordinary, value_most}
 use Rattle.writer.proofs.Stretches.{stretch, string_short, not_refused, quote_ends, quote_byte}
-use Rattle.std.specs.Prelude.{Ok, Err}
+use Rattle.std.specs.Prelude.{Ok, Err, Option, Some, None}
 use Rattle.chars.specs.Refusals.{Reading}
 
 -- a piece by its numbers
