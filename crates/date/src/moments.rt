@@ -4,7 +4,6 @@ ghost use Rattle.std.proofs.Math.IntN.{sub_ℕ};
 ghost use Rattle.model.specs.Calendar.{on, in_calendar};
 ghost use Rattle.date.specs.Moments.{moment_at};
 
-use crate::Moment;
 use crate::days::day_count;
 use crate::seconds::has_second;
 
@@ -17,17 +16,17 @@ fn seconds_at(days: u32, moved: u32, second: u32) -> i64
     requires { (days ≤ 3652424) × (moved < 4319) × (second ≤ 60) }
     ensures { result ≡ sub_ℕ (86400 * days + 60 * moved + second) 62167305600 }
 {
-    let seconds = 86400 * days as u64 + 60 * moved as u64 + second as u64;
+    let seconds = 86400 * u64::from(days) + 60 * u64::from(moved) + u64::from(second);
     seconds as i64 - EPOCH
 }
 
 // The moment of a second, where the minute of the moved time has it.
-pub fn moment_at(year: u32, month: u32, day: u32, moved: u32, second: u32) -> Moment
+pub fn moment_at(year: u32, month: u32, day: u32, moved: u32, second: u32) -> Option<i64>
     requires { (in_calendar (on year month day) ≡ true) × (year ≤ 9999) × (moved < 4319) }
     ensures { result ≡ moment_at (on year month day) moved second }
 {
     if !has_second(second, month, day, moved) {
-        return Moment::NoDate;
+        return None;
     }
-    Moment::At(seconds_at(day_count(year, month, day), moved, second))
+    Some(seconds_at(day_count(year, month, day), moved, second))
 }

@@ -74,15 +74,12 @@ fn counted(count: u32) -> [u8; 10]
     spelled(year, month, days - first_months(year, month) + 1)
 }
 
-// The day with a number from 1970-01-01, as `YYYY-MM-DD`; ten zeros where it is none of the years 0000 to 9999.
-pub fn day_text(number: i32) -> [u8; 10]
+// The day with a number from 1970-01-01, as `YYYY-MM-DD`, where it is one of the years 0000 to 9999.
+pub fn day_text(number: i32) -> Option<[u8; 10]>
     ensures { DayText number result }
 {
-    if number < FIRST {
-        return [0; 10];
+    if !(FIRST..=LAST).contains(&number) {
+        return None;
     }
-    if number > LAST {
-        return [0; 10];
-    }
-    counted((number - FIRST) as u32)
+    Some(counted((number - FIRST) as u32))
 }
