@@ -5,7 +5,7 @@ ghost use Rattle.chars.specs.Strings.{chars_at};
 ghost use Rattle.date.specs.Endings.{offset_read, zone_read, end_read};
 
 use crate::fields::{Time, clock};
-use crate::walk::{digit, either, ends, mark};
+use crate::walk::{Number, digit, either, ends, mark};
 
 // The minutes of a day.
 const DAY: u32 = 1440;
@@ -16,10 +16,7 @@ fn offset(body: &[u8], at: usize, c: u8) -> Option<u32>
     ensures { result ≡ offset_read c (chars_at body.now at) }
 {
     let Time { minutes, next } = clock(body, mark(body, at, c)?)?;
-    if !ends(body, next) {
-        return None;
-    }
-    Some(minutes)
+    ends(body, next).then_some(minutes)
 }
 
 // How far the zone at a place is behind UTC, in minutes, and a day more; with nothing behind it.
@@ -27,7 +24,7 @@ fn zone(body: &[u8], at: usize) -> Option<u32>
     ensures { result ≡ zone_read (chars_at body.now at) }
 {
     if let Some(next) = either(body, at, b'Z', b'z') {
-        return if ends(body, next) { Some(DAY) } else { None };
+        return ends(body, next).then_some(DAY);
     }
     if let Some(ahead) = offset(body, at, b'+') {
         return Some(DAY - ahead);
@@ -41,8 +38,8 @@ fn digits(body: &[u8], at: usize) -> Option<u32>
     ensures { result ≡ zone_read (after_digits (chars_at body.now at)) }
 {
     let mut i = at;
-    while let Some(number) = digit(body, i) {
-        i = number.next;
+    while let Some(Number { next, .. }) = digit(body, i) {
+        i = next;
     }
     zone(body, i)
 }
@@ -54,8 +51,6 @@ pub fn ending(body: &[u8], at: usize) -> Option<u32>
     let Some(point) = mark(body, at, b'.') else {
         return zone(body, at);
     };
-    match digit(body, point) {
-        Some(number) => digits(body, number.next),
-        None => None,
-    }
+    let Number { next, .. } = digit(body, point)?;
+    digits(body, next)
 }
