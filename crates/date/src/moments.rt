@@ -16,8 +16,7 @@ fn seconds_at(days: u32, moved: u32, second: u32) -> i64
     requires { (days ≤ 3652424) × (moved < 4319) × (second ≤ 60) }
     ensures { result ≡ sub_ℕ (86400 * days + 60 * moved + second) 62167305600 }
 {
-    let seconds = 86400 * u64::from(days) + 60 * u64::from(moved) + u64::from(second);
-    seconds as i64 - EPOCH
+    86400 * i64::from(days) + 60 * i64::from(moved) + i64::from(second) - EPOCH
 }
 
 // The moment of a second, where the minute of the moved time has it.
