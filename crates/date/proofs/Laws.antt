@@ -43,11 +43,10 @@ end_not l e = by_test (is_end l) (λ t. let h : None ≡ Some (behind_utc (zone_
 module _ (s : List ℕ) (d : Date) (day : DayTold s (Some d)) where
   -- the calendar has the day, and its year is small
   pub day_fits : (in_calendar (on d.year d.month d.day) ≡ true) × (d.year ≤ 9999)
-  day_fits =
-      (
-        subst (λ (x : Day). in_calendar x ≡ true) (sym day.1) (day_in (characters s) day.0),
-        omega (arith, ap (λ (x : Day). x.year) day.1, year_most (characters s) day.0),
-      )
+  day_fits = (
+    subst (λ (x : Day). in_calendar x ≡ true) (sym day.1) (day_in (characters s) day.0),
+    omega (arith, ap (λ (x : Day). x.year) day.1, year_most (characters s) day.0),
+  )
 
   module _ (j : ℕ) (u : Either s d.next 0x54 0x74 (Some j)) where
     letter : EitherTold s (characters s) 10 0x54 0x74 (Some j)

@@ -1,6 +1,5 @@
 // The text of a day by its number, counted from 1970-01-01.
-ghost use Rattle.std.specs.Prelude.{◌≡◌, true, ◌+◌, ◌%◌, ◌≤◌, ◌<◌};
-ghost use Rattle.std.proofs.Math.IntN.{sub_ℕ};
+ghost use Rattle.std.specs.Prelude.{◌≡◌, true, ◌+◌, ◌%◌, ◌≤◌, ◌<◌, pos, ◌-ℤ◌};
 ghost use Rattle.model.specs.Calendar.{on, in_calendar, first_months};
 ghost use Rattle.date.specs.Days.{WritesDay, DayText};
 ghost use Rattle.date.specs.Spelling.{InYear, InMonth, Spells};
@@ -66,7 +65,7 @@ fn spelled(year: u32, month: u32, day: u32) -> [u8; 10]
 // The day with a count from 0000-01-01.
 fn counted(count: u32) -> [u8; 10]
     requires { count ≤ 3652424 }
-    ensures { WritesDay (sub_ℕ count 719528) result }
+    ensures { WritesDay (pos count -ℤ pos 719528) result }
 {
     let year = year_at(count);
     let days = count - first_years(year);
@@ -78,8 +77,8 @@ fn counted(count: u32) -> [u8; 10]
 pub fn day_text(number: i32) -> Option<[u8; 10]>
     ensures { DayText number result }
 {
-    if !(FIRST..=LAST).contains(&number) {
-        return None;
+    match number {
+        FIRST..=LAST => Some(counted((number - FIRST) as u32)),
+        _ => None,
     }
-    Some(counted((number - FIRST) as u32))
 }

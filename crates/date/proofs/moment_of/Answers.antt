@@ -24,8 +24,7 @@ overflow_add-minutes c =
 
 pub moment_at-requires : goal.moment_at-requires
 moment_at-requires c =
-    let fits = day_fits _ _ c.in_ok-year.ensures in
-    (
+    let fits = day_fits _ _ c.in_ok-year.ensures in (
       fits.0,
       fits.1,
       moved_small _ _ c.in_ok-year.ensures _ c.in_ok-time.ensures _ c.in_ok-minutes.ensures _ c.in_ok-second.ensures _ c.in_ok-behind.ensures,

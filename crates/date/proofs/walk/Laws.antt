@@ -1,8 +1,8 @@
 -- The walk over the characters of a string, on plain values: what is told of a place by what is told of the steps from it.
 use mathlib.Core.Path.{◌≡◌, refl, sym, ap, subst, ◌∙◌}
-use mathlib.Core.List.{List, [], ◌∷◌}
+use mathlib.Core.List.{List, []}
 use mathlib.Core.Bool.{Bool, true, false, not}
-use Prim.Native.Nat.{ℕ, ◌+◌, ◌-◌, ◌*◌, ◌≤◌, ◌<◌}
+use Prim.Native.Nat.{ℕ, ◌+◌, ◌-◌, ◌≤◌, ◌<◌}
 use native.Mathlib.Nat.{add-zero}
 use native.Mathlib.Omega.{arith}
 use lib.ListN.{length, drop, length-drop}
@@ -20,7 +20,7 @@ use Rattle.chars.specs.Strings.{chars_at, values_on}
 use Rattle.model.proofs.DateFields.{digit_range, two_range}
 use Rattle.chars.proofs.Facts.{chars_char, chars_step, digit_read}
 use Rattle.date.specs.declared.walk.Number.{Number}
-use Rattle.date.specs.Walk.{Stands, CharTold, DigitTold, TwoTold, FourTold, MarkTold, EitherTold, MarkedTold}
+use Rattle.date.specs.Walk.{Stands, CharTold, DigitTold, TwoTold, MarkTold}
 
 pub at_drop : (l : List ℕ) (k : ℕ) → at (drop k l) 0 ≡ at l k
 at_drop l k = get_or-drop k l 0 0 ∙ ap (at l) (add-zero k)

@@ -1,5 +1,4 @@
 -- `date::walk::ends` meets its contract.
-use mathlib.Core.Path.{◌≡◌, ◌∙◌}
 use Rattle.date.proofs.walk.Laws.{end_told}
 use Rattle.date.proofs.walk.ends.Goals as goal
 

@@ -1,5 +1,5 @@
 -- `date::walk::mark` meets its contract, with the mark.
-use mathlib.Core.Path.{◌≡◌, ◌∙◌}
+use mathlib.Core.Path.{◌∙◌}
 use Rattle.date.proofs.walk.Laws.{mark_told}
 use Rattle.date.proofs.walk.mark.Goals as goal
 
