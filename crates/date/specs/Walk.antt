@@ -1,7 +1,6 @@
 -- For private contracts: what a function tells of the characters of l from the kth on, which it reads at a place of the string s.
 use Rattle.std.specs.Prelude.{ℕ, ◌+◌, ◌-◌, ◌*◌, ◌≡◌, true, false, ◌&&◌, ◌||◌, List, [], ◌∷◌, eqb, drop, Option, Some, None}
 use Rattle.model.specs.Value.{is_digit}
-use Rattle.model.specs.Calendar.{on}
 use Rattle.model.specs.Date.{at, two_digits, two, day_of, is_day, is_clock, minutes}
 use Rattle.chars.specs.Strings.{chars_at, characters}
 use Rattle.date.specs.declared.walk.Number.{Number}
@@ -54,5 +53,5 @@ ClockTold s l k None = is_clock l k ≡ false
 abbrev pub DayTold : List ℕ → Option Date → Type 0
 DayTold s (Some d) =
     let l = characters s in
-    (is_day l ≡ true) × (on d.year d.month d.day ≡ day_of l) × Stands s d.next l 10
+    (is_day l ≡ true) × (d.day ≡ day_of l) × Stands s d.next l 10
 DayTold s None = is_day (characters s) ≡ false

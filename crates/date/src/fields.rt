@@ -2,15 +2,13 @@
 ghost use Rattle.std.specs.Prelude.{List, ℕ};
 ghost use Rattle.date.specs.Walk.{Stands, DayTold, ClockTold};
 
-use crate::calendar::in_calendar;
+use crate::calendar::Day;
 use crate::walk::{Number, four, marked, two};
 
 // A day that the calendar has, and the place behind it.
 #[derive(Clone, Copy, Debug, PartialEq, Eq)]
 pub struct Date {
-    pub year: u32,
-    pub month: u32,
-    pub day: u32,
+    pub day: Day,
     pub next: usize,
 }
 
@@ -28,15 +26,8 @@ pub fn day(body: &[u8]) -> Option<Date>
     let Number { value: year, next } = four(body, 0)?;
     let Number { value: month, next } = marked(body, next, b'-')?;
     let Number { value: day, next } = marked(body, next, b'-')?;
-    if !in_calendar(year, month, day) {
-        return None;
-    }
-    Some(Date {
-        year,
-        month,
-        day,
-        next,
-    })
+    let day = Day::new(year, month, day)?;
+    Some(Date { day, next })
 }
 
 // `hh:mm` at a place: hours 00 to 23, minutes 00 to 59.

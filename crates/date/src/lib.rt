@@ -15,10 +15,8 @@ ghost use Rattle.chars.specs.Strings.{characters};
 ghost use Rattle.date.specs.Days.{written_day};
 ghost use Rattle.date.specs.Moments.{moment_of};
 
-use crate::days::day_count;
 use crate::endings::ending;
 use crate::fields::{Date, Time, clock, day};
-use crate::moments::moment_at;
 use crate::walk::{Number, either, marked};
 pub use spelling::day_text;
 
@@ -26,12 +24,7 @@ pub use spelling::day_text;
 pub fn moment_of(body: &[u8]) -> Option<i64>
     ensures { result ≡ moment_of (characters body.now) }
 {
-    let Date {
-        year,
-        month,
-        day: date,
-        next,
-    } = day(body)?;
+    let Date { day, next } = day(body)?;
     let time = either(body, next, b'T', b't')?;
     let Time { minutes, next } = clock(body, time)?;
     let Number {
@@ -39,18 +32,13 @@ pub fn moment_of(body: &[u8]) -> Option<i64>
         next,
     } = marked(body, next, b':')?;
     let behind = ending(body, next)?;
-    moment_at(year, month, date, minutes + behind, second)
+    day.moment_at(minutes + behind, second)
 }
 
 // The days from 0000-01-01 to the day at the start of a string, as the bytes between its quotes.
 pub fn day_of(body: &[u8]) -> Option<u32>
     ensures { result ≡ written_day (characters body.now) }
 {
-    let Date {
-        year,
-        month,
-        day: date,
-        next: _,
-    } = day(body)?;
-    Some(day_count(year, month, date))
+    let Date { day, .. } = day(body)?;
+    Some(day.count())
 }
