@@ -45,6 +45,7 @@ fn digit(n: u32) -> u8
 
 impl Day {
     // The day with a count from 0000-01-01.
+    #[tactic(auto, using(crate::proofs::spelling::Laws::days_left, crate::proofs::spelling::Laws::day_in, crate::proofs::spelling::Laws::count_back))]
     fn at_count(count: u32) -> Self
         requires { count ≤ 3652424 }
         ensures { day_count result ≡ count }

@@ -92,17 +92,19 @@ module _ (n y : ℕ) (year : InYear n y) (a : ℕ) (p : a ≡ first_years y) whe
     pub day_in : in_calendar (on y m (n - a - b + 1)) ≡ true
     day_in = rw q (day_at_in y m (n - a) month.first month.last month.begins month.ends)
 
-    day-count : day_count (on y m (n - a - b + 1)) ≡ n
-    day-count = rw q (day_at_count y m (n - a) month.first month.last month.begins month.ends ∙ omega (arith, year.begins))
-
-    pub writes : (l : List ℕ) → Spells (on y m (n - a - b + 1)) l → WritesDay (pos n -ℤ pos 719528) l
-    writes l s = record {
-      long = s.long;
-      is-day = s.is-day;
-      number = number_count (day_of l) ∙ ap (λ (k : ℕ). sub_ℕ k 719528) (ap day_count s.is ∙ day-count) ∙ sym (sub_back n 719528);
-    }
+    pub count_back : day_count (on y m (n - a - b + 1)) ≡ n
+    count_back = rw q (day_at_count y m (n - a) month.first month.last month.begins month.ends ∙ omega (arith, year.begins))
 
 -- ---- the number z
 
+-- of a day that is spelled
+pub writes : (x : Day) (l : List ℕ) (z : ℤ) → Spells x l → pos (day_count x) -ℤ pos 719528 ≡ z → WritesDay z l
+writes x l z s e = record {
+  long = s.long;
+  is-day = s.is-day;
+  number = number_count (day_of l) ∙ ap (λ (k : ℕ). sub_ℕ k 719528) (ap day_count s.is) ∙ sym (sub_back (day_count x) 719528) ∙ e;
+}
+
+-- of a day of the years 0000 to 9999
 pub is_number : (z : ℤ) → negsuc 719527 ≤ℤ z → z ≤ℤ pos 2932896 → is_day_number z ≡ true
 is_number z least greatest = rw (least_number, greatest_number) (grind (arith, ints))
