@@ -19,33 +19,6 @@ use Rattle.model.proofs.DayNumbers.{number_count, least_number, greatest_number}
 use Rattle.date.specs.Days.{is_day_number, WritesDay}
 use Rattle.date.specs.Spelling.{InYear, InMonth, Spells}
 
--- ---- the year y of the count n; r days are before the next
-
-pub year_first : (n : ℕ) → first_years (n / 366) ≤ n
-year_first n = omega (arith, years_most (n / 366))
-
-module _ (n y : ℕ) (few : n ≤ 3652424) (begins : first_years y ≤ n) where
-  pub year_small : y ≤ 9999
-  year_small = years_few y n begins few
-
-  pub year_is : (r : ℕ) → r ≡ first_years (y + 1) → n < r → InYear n y
-  year_is r told h = record { small = year_small; begins = begins; ends = omega arith }
-
--- ---- the month m of the count n in the year y; r of its days are before the next
-
-module _ (y n : ℕ) (few : n < first_months y 12) where
-  pub month_first : (1 ≤ n / 31 + 1) × (first_months y (n / 31 + 1 - 1) ≤ n)
-  month_first = let e : n / 31 + 1 - 1 ≡ n / 31 = omega arith in (omega arith, rw e (omega (arith, months_most y (n / 31))))
-
-  module _ (m : ℕ) (begins : first_months y (m - 1) ≤ n) where
-    pub month_small : m ≤ 12
-    month_small = months_few y m n begins few
-
-    pub month_is : 1 ≤ m → (r : ℕ) → r ≡ first_months y (m + 1 - 1) → n < r → InMonth y n m
-    month_is some r told h =
-        let e : m + 1 - 1 ≡ m = omega arith in
-        record { first = some; last = month_small; begins = begins; ends = omega (arith, ap (first_months y) e) }
-
 -- ---- digits
 
 -- the bytes a and b are the last two digits of n
