@@ -1,16 +1,15 @@
 -- A date, on plain values: its day d, its letter before the place j, its time t, its second n and its end b, one behind the other.
-use mathlib.Core.Path.{◌≡◌, refl, sym, ap, subst, ◌∙◌}
+use mathlib.Core.Path.{◌≡◌, refl, ap, ◌∙◌}
 use mathlib.Core.Bool.{true, false}
 use mathlib.Core.List.{List}
-use Prim.Native.Nat.{ℕ, ◌+◌, ◌≤◌, ◌<◌}
+use Prim.Native.Nat.{ℕ, ◌+◌, ◌<◌}
 use native.Mathlib.Omega.{arith}
 use lib.IntN.{ℤ}
 use lib.ListN.{drop}
 use Rattle.std.specs.Prelude.{Option, Some, None}
-use Rattle.model.specs.Calendar.{Day, on, in_calendar}
 use Rattle.model.specs.Date.{is_end, zone_of, behind_utc, moved_time}
 use Rattle.model.proofs.Basics.{by_test}
-use Rattle.model.proofs.DateFields.{clock_less, day_in, year_most, behind_range}
+use Rattle.model.proofs.DateFields.{clock_less, behind_range}
 use Rattle.model.proofs.Moments.{moment_count}
 use Rattle.chars.specs.Strings.{chars_at, characters}
 use Rattle.date.specs.declared.walk.Number.{Number}
@@ -41,13 +40,6 @@ end_not : (l : List ℕ) → None ≡ end_read l → is_end l ≡ false
 end_not l e = by_test (is_end l) (λ t. let h : None ≡ Some (behind_utc (zone_of l)) = rw t at e in cc) (λ f. f)
 
 module _ (s : List ℕ) (d : Date) (day : DayTold s (Some d)) where
-  -- the calendar has the day, and its year is small
-  pub day_fits : (in_calendar (on d.year d.month d.day) ≡ true) × (d.year ≤ 9999)
-  day_fits = (
-    subst (λ (x : Day). in_calendar x ≡ true) (sym day.1) (day_in (characters s) day.0),
-    omega (arith, ap (λ (x : Day). x.year) day.1, year_most (characters s) day.0),
-  )
-
   module _ (j : ℕ) (u : Either s d.next 0x54 0x74 (Some j)) where
     letter : EitherTold s (characters s) 10 0x54 0x74 (Some j)
     letter = u (characters s) 10 day.2
@@ -73,11 +65,13 @@ module _ (s : List ℕ) (d : Date) (day : DayTold s (Some d)) where
           end : (is_end (drop 19 (characters s)) ≡ true) × (b ≡ behind_utc (zone_of (drop 19 (characters s))))
           end = end_is (drop 19 (characters s)) b (e ∙ ap end_read second.2)
 
-          pub moved_small : t.minutes + b < 4319
-          moved_small =
-              omega (arith, time.1, clock_less (characters s) 11 time.0, end.1, behind_range (zone_of (drop 19 (characters s))))
+          -- the numbers are small
+          pub times_small : (t.minutes < 1440) × (b < 2880)
+          times_small =
+              let l = characters s in
+              (omega (arith, time.1, clock_less l 11 time.0), omega (arith, end.1, behind_range (zone_of (drop 19 l))))
 
-          pub all_read : (r : Option ℤ) → r ≡ moment_at (on d.year d.month d.day) (t.minutes + b) n.value → r ≡ moment_of (characters s)
+          pub all_read : (r : Option ℤ) → r ≡ moment_at d.day (t.minutes + b) n.value → r ≡ moment_of (characters s)
           all_read r told =
               let moved : t.minutes + b ≡ moved_time (characters s) = rw (time.1, end.1) refl in
               told ∙ rw (day.0, letter.0, time.0, second.0, end.0, moment_count (characters s), day.1, moved, second.1) refl

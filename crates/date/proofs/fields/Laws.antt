@@ -1,17 +1,36 @@
--- The day of a date, on plain values.
-use mathlib.Core.Path.{◌≡◌}
+-- The day of a date, on plain values: by what is told of its year y, its month m and its day d.
+use mathlib.Core.Path.{◌≡◌, refl, ◌∙◌}
 use mathlib.Core.List.{List}
-use mathlib.Core.Bool.{true}
-use Prim.Native.Nat.{ℕ}
-use Rattle.std.specs.Prelude.{Some}
-use Rattle.model.specs.Calendar.{on, in_calendar}
+use mathlib.Core.Bool.{false, cond}
+use Prim.Native.Nat.{ℕ, ◌≤◌}
+use native.Mathlib.Omega.{arith}
+use Rattle.std.specs.Prelude.{Some, None}
+use Rattle.model.specs.Calendar.{Day, on, in_calendar}
+use Rattle.model.specs.Date.{two_digits, is_day}
+use Rattle.model.proofs.Basics.{by_test, and_ways}
+use Rattle.model.proofs.DateFields.{two_range}
 use Rattle.chars.specs.Strings.{characters}
 use Rattle.date.specs.declared.walk.Number.{Number}
 use Rattle.date.specs.Walk.{FourTold, MarkedTold, DayTold}
 
--- by what is told of the year y, the month m and the day d
-pub day_read :
-    (s : List ℕ) (y m d : Number) → FourTold s (characters s) 0 (Some y) → MarkedTold s (characters s) 4 0x2D (Some m)
-    → MarkedTold s (characters s) 7 0x2D (Some d) → in_calendar (on y.value m.value d.value) ≡ true
-    → DayTold s (Some (record { year = y.value; month = m.value; day = d.value; next = d.next }))
-day_read s y m d t u w h = (rw (t.0, u.0, w.0, ← t.1, ← u.1, ← w.1) h, rw (t.1, u.1, w.1), w.2)
+module _ (s : List ℕ) (y : Number) (t : FourTold s (characters s) 0 (Some y)) where
+  pub year_small : y.value ≤ 9999
+  year_small =
+      let l = characters s in
+      and_ways (two_digits l 0) (two_digits l 2) t.0 (λ a b. omega (arith, t.1, two_range l 0 a, two_range l 2 b))
+
+  module _ (m d : Number) (u : MarkedTold s (characters s) 4 0x2D (Some m)) (w : MarkedTold s (characters s) 7 0x2D (Some d)) where
+    abbrev x : Day
+    x = on y.value m.value d.value
+
+    judged : is_day (characters s) ≡ in_calendar x
+    judged = rw (t.0, u.0, w.0, ← t.1, ← u.1, ← w.1) refl
+
+    pub off_calendar : None ≡ cond (in_calendar x) (Some x) None → is_day (characters s) ≡ false
+    off_calendar e = by_test (in_calendar x) (λ h. let f : None ≡ Some x = rw h at e in cc) (λ h. judged ∙ h)
+
+    pub day_read : (z : Day) → Some z ≡ cond (in_calendar x) (Some x) None → DayTold s (Some (record { day = z; next = d.next }))
+    day_read z e =
+        by_test (in_calendar x)
+        (λ h. let f : Some z ≡ Some x = rw h at e in let g : z ≡ x = cc in (judged ∙ h, rw (t.1, u.1, w.1) at g, w.2))
+        (λ h. let f : Some z ≡ None = rw h at e in cc)

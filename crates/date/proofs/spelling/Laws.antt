@@ -14,7 +14,7 @@ use Rattle.model.specs.Calendar.{Day, on, in_calendar, first_years, first_months
 use Rattle.model.specs.Date.{day_of}
 use Rattle.model.proofs.Days.{on_calendar}
 use Rattle.model.proofs.Differences.{sub_back}
-use Rattle.model.proofs.DayNumbers.{days_most, years_most, years_few, months_most, months_few, year_days, day_at_in, day_at_count}
+use Rattle.model.proofs.DayNumbers.{days_most, year_days, day_at_in, day_at_count}
 use Rattle.model.proofs.DayNumbers.{number_count, least_number, greatest_number}
 use Rattle.date.specs.Days.{is_day_number, WritesDay}
 use Rattle.date.specs.Spelling.{InYear, InMonth, Spells}
