@@ -2,6 +2,7 @@
 use Rattle.std.specs.Prelude.{ℕ, ◌+◌, ◌-◌, ◌*◌, ◌≡◌, true, false, ◌&&◌, ◌||◌, List, [], ◌∷◌, eqb, drop, Option, Some, None}
 use Rattle.model.specs.Value.{is_digit}
 use Rattle.model.specs.Date.{at, two_digits, two, day_of, is_day, is_clock, minutes}
+use Rattle.chars.specs.declared.characters.Character.{Character}
 use Rattle.chars.specs.Strings.{chars_at, characters}
 use Rattle.date.specs.declared.walk.Number.{Number}
 use Rattle.date.specs.declared.fields.Date.{Date}
@@ -12,8 +13,8 @@ abbrev pub Stands : List ℕ → ℕ → List ℕ → ℕ → Type 0
 Stands s i l k = chars_at s i ≡ drop k l
 
 -- a character and the place behind it, or that none is left
-abbrev pub CharTold : List ℕ → List ℕ → ℕ → Option (ℕ × ℕ) → Type 0
-CharTold s l k (Some c) = drop k l ≡ c.0 ∷ chars_at s c.1
+abbrev pub CharTold : List ℕ → List ℕ → ℕ → Option Character → Type 0
+CharTold s l k (Some c) = drop k l ≡ c.value ∷ chars_at s c.next
 CharTold s l k None = drop k l ≡ []
 
 abbrev pub DigitTold : List ℕ → List ℕ → ℕ → Option Number → Type 0

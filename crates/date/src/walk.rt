@@ -2,7 +2,7 @@
 ghost use Rattle.std.specs.Prelude.{◌≡◌, List, ℕ, ◌<◌, length, leb};
 ghost use Rattle.date.specs.Walk.{Stands, CharTold, DigitTold, TwoTold, FourTold, MarkTold, EitherTold, MarkedTold};
 
-use chars::{Step, char_at, peek};
+use chars::{Character, character_at, peek};
 
 // A number, and the place behind its digits.
 #[derive(Clone, Copy, Debug, PartialEq, Eq)]
@@ -12,13 +12,10 @@ pub struct Number {
 }
 
 // The character at a place, and the place behind it.
-fn character(body: &[u8], at: usize) -> Option<(u32, usize)>
+fn character(body: &[u8], at: usize) -> Option<Character>
     ensures { (l : List ℕ) (k : ℕ) → Stands body.now at l k → CharTold body.now l k result }
 {
-    match char_at(body, at) {
-        Step::Char { value, next } => Some((value, next)),
-        _ => None,
-    }
+    character_at(body, at)
 }
 
 // The digit at a place; one that is no escape is read at once.
@@ -31,7 +28,7 @@ pub fn digit(body: &[u8], at: usize) -> Option<Number>
             next: at + 1,
         });
     }
-    let (value, next) = character(body, at)?;
+    let Character { value, next } = character(body, at)?;
     match value {
         0x30..=0x39 => Some(Number {
             value: value - 0x30,
@@ -76,7 +73,7 @@ pub fn mark(body: &[u8], at: usize, c: u8) -> Option<usize>
     requires { 0 < c }
     ensures { (l : List ℕ) (k : ℕ) → Stands body.now at l k → MarkTold body.now l k c result }
 {
-    let (value, next) = character(body, at)?;
+    let Character { value, next } = character(body, at)?;
     if value != u32::from(c) {
         return None;
     }

@@ -12,35 +12,26 @@ use borrow.Author.Tests.{le-leb, lt-leb, eq-eqb, ne_eqb}
 use Rattle.std.specs.Prelude.{Option, Some, None, is_some}
 use Rattle.model.specs.Value.{is_digit}
 use Rattle.model.specs.Date.{at}
-use Rattle.chars.specs.declared.characters.Step.{Step}
-use Rattle.chars.specs.declared.characters.Step.TheVariants.{Char, Quote, Refused}
+use Rattle.chars.specs.declared.characters.Character.{Character}
 use Rattle.chars.specs.Bytes.{byte_at}
-use Rattle.chars.specs.Characters.{char_at}
-use Rattle.chars.specs.Strings.{chars_at, values_on}
+use Rattle.chars.specs.Characters.{character, character_in, character_at}
+use Rattle.chars.specs.Strings.{chars_at}
 use Rattle.model.proofs.DateFields.{digit_range, two_range}
-use Rattle.chars.proofs.Facts.{chars_char, chars_step, digit_read}
+use Rattle.chars.proofs.Facts.{char_read, chars_char, chars_none, digit_read}
 use Rattle.date.specs.declared.walk.Number.{Number}
 use Rattle.date.specs.Walk.{Stands, CharTold, DigitTold, TwoTold, MarkTold}
 
 pub at_drop : (l : List ℕ) (k : ℕ) → at (drop k l) 0 ≡ at l k
 at_drop l k = get_or-drop k l 0 0 ∙ ap (at l) (add-zero k)
 
--- ---- one character, by the step r
+-- ---- one character, by what is read at a place
 
-no_char : (s : List ℕ) (r : Step) → ((v j : ℕ) → r ≡ Char v j → ⊥) → values_on (chars_at s) r ≡ []
-no_char s (Char v j) f = absurd (f v j refl)
-no_char s Quote f = refl
-no_char s (Refused c p) f = refl
-
-module _ (s : List ℕ) (i : ℕ) (r : Step) (t : r ≡ char_at s i) (l : List ℕ) (k : ℕ) (e : Stands s i l k) where
-  pub char_told : (v j : ℕ) → r ≡ Char v j → CharTold s l k (Some (v, j))
-  char_told v j q = sym e ∙ chars_char s i v j (sym t ∙ q)
-
-  pub none_told : ((v j : ℕ) → r ≡ Char v j → ⊥) → CharTold s l k None
-  none_told f = sym e ∙ chars_step s i ∙ ap (values_on (chars_at s)) (sym t) ∙ no_char s r f
+pub char_told : (s : List ℕ) (i : ℕ) (r : Option Character) → r ≡ character_at s i → (l : List ℕ) (k : ℕ) → Stands s i l k → CharTold s l k r
+char_told s i (Some c) t l k e = sym e ∙ chars_char s i _ _ (char_read s i c.value c.next (sym t))
+char_told s i None t l k e = sym e ∙ chars_none s i (sym t)
 
 -- the character v, behind which stands what is at j
-module _ (s l : List ℕ) (k v j : ℕ) (t : CharTold s l k (Some (v, j))) where
+module _ (s l : List ℕ) (k v j : ℕ) (t : CharTold s l k (Some (character v j))) where
   first_is : at l k ≡ v
   first_is = sym (at_drop l k) ∙ ap (λ (t : List ℕ). at t 0) t
 
@@ -80,9 +71,9 @@ module _ (l : List ℕ) (k : ℕ) (t : drop k l ≡ []) where
   ended = le-leb (length l) k (omega (arith, length-drop k l, ap length t))
 
 -- whether the string ends there
-pub end_told : (s l : List ℕ) (k : ℕ) (a : Option (ℕ × ℕ)) → CharTold s l k a → (r : Bool) → is_some a ≡ not r → r ≡ leb (length l) k
+pub end_told : (s l : List ℕ) (k : ℕ) (a : Option Character) → CharTold s l k a → (r : Bool) → is_some a ≡ not r → r ≡ leb (length l) k
 end_told s l k (Some c) t true e = (cc)
-end_told s l k (Some c) t false e = sym (more s l k c.0 c.1 t)
+end_told s l k (Some c) t false e = sym (more s l k c.value c.next t)
 end_told s l k None t true e = sym (ended l k t)
 end_told s l k None t false e = (cc)
 
@@ -91,7 +82,7 @@ pub byte_told :
     (s : List ℕ) (i : ℕ) (l : List ℕ) (k : ℕ) → Stands s i l k → (b : ℕ) → b ≡ byte_at s i → 0x30 ≤ b → b ≤ 0x39 → (v : ℕ) → v ≡ b - 0x30
     → DigitTold s l k (Some (record { value = v; next = i + 1 }))
 byte_told s i l k e b t lo hi v is =
-    rw is (digit_told s l k b (i + 1) (char_told s i (char_at s i) refl l k e b (i + 1) (digit_read s i t lo hi)) lo hi)
+    rw is (digit_told s l k b (i + 1) (char_told s i (Some (character b (i + 1))) (sym (ap character_in (digit_read s i t lo hi))) l k e) lo hi)
 
 -- ---- what the functions tell of a place, whatever characters stand there: one digit and two are small numbers
 
