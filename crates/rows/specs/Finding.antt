@@ -1,5 +1,5 @@
 -- For private contracts: the value under a name in an object, and its row.
-use Rattle.std.specs.Prelude.{ℕ, ◌<◌, cond, List, ◌≡◌, Option, Some, None}
+use Rattle.std.specs.Prelude.{ℕ, ◌<◌, cond, List, Option, Some, None}
 use Rattle.model.specs.Text.{same}
 use Rattle.syntax.specs.Tree.{Node, Members, no_member, member}
 use Rattle.syntax.specs.Grammar.{name_of}

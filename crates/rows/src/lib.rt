@@ -3,7 +3,9 @@
 
 mod children;
 mod finding;
+mod matching;
 mod records;
 
 pub use children::Children;
+pub use matching::{FEW_NAMES, MOST_NAMES, wide};
 pub use records::{Record, Tree, parent_at};

@@ -1,9 +1,8 @@
 -- What `find` found for a name: the value under it, or that there is none.
-use Prim.Native.Nat.{ℕ, ◌<◌}
+use Prim.Native.Nat.{ℕ}
 use mathlib.Core.Path.{◌≡◌, refl}
 use Rattle.std.specs.Prelude.{Option, Some, None}
 use mathlib.Core.List.{List}
-use native.Mathlib.Omega.{arith}
 use Rattle.model.proofs.Basics.{never, both}
 use Rattle.syntax.specs.Tree.{Node, Members, no_member, member}
 use Rattle.model.specs.Text.{same}

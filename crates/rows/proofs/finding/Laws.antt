@@ -1,11 +1,12 @@
 -- Looking a name up among the members of an object, on plain values.
-use Prim.Native.Nat.{ℕ, ◌+◌, ◌-◌, ◌≤◌, ◌<◌}
-use mathlib.Core.Path.{◌≡◌, refl, sym, ap, ◌∙◌, subst}
+use Prim.Native.Nat.{ℕ, ◌+◌, ◌-◌}
+use mathlib.Core.Path.{◌≡◌, sym, ap, ◌∙◌, subst}
 use mathlib.Core.Bool.{Bool, true, false, cond}
 use Rattle.std.specs.Prelude.{Option, Some, None}
 use mathlib.Core.List.{List}
 use native.Mathlib.Omega.{arith}
 use Rattle.model.specs.Text.{same}
+use Rattle.chars.specs.Strings.{characters, part}
 use Rattle.syntax.specs.Tree.{Node, Members}
 use Rattle.syntax.specs.Grammar.{name_of}
 use Rattle.syntax.specs.Holding.{word}
@@ -15,7 +16,7 @@ use Rattle.rows.specs.Children.{Passes, Begins}
 use Rattle.rows.specs.declared.children.Children.{Children}
 use Rattle.rows.specs.declared.records.Record.{Record}
 use Rattle.rows.proofs.records.Trees.{same_members}
-use Rattle.rows.proofs.records.Members.{MemberHere, member_read}
+use Rattle.rows.proofs.records.Members.{MemberHere}
 use Rattle.rows.proofs.children.Laws.{NamesLeft, names_start, name_here, names_next, names_end}
 
 -- the name was not among the members before those that are left
@@ -39,14 +40,18 @@ module _ {s t : List ℕ} {r : ℕ} {key : List ℕ} {c : Children 1} where
       pub candidate : MemberHere s t row a.rest
       candidate = name_here a.ahead p
 
-      module _ {x : Record} (w : Reads t row x) where
-        -- the members from here on, by the comparison of the names
-        splits : (b : Bool) → same key (name_of s x.first x.end) ≡ b
-            → lookup s key a.rest ≡ cond b (Some candidate.value.tree) (lookup s key candidate.others)
-        splits b e = ap (lookup s key) (member_read candidate w) ∙ rw e
+      -- the members from here on, by the comparison of the names
+      splits : (b : Bool) → same key (name_of s (word t row 1) (word t row 2)) ≡ b
+          → lookup s key a.rest ≡ cond b (Some candidate.value.tree) (lookup s key candidate.others)
+      splits b e = ap (lookup s key) candidate.is ∙ rw e
 
-        pub hit : same key (name_of s x.first x.end) ≡ true → Finds s t r key (Some (row + 1))
-        hit e = found_as (Some (row + 1)) (Some candidate.value.tree) (splits true e) (omega arith, candidate.value.holds)
+      pub hit : same key (name_of s (word t row 1) (word t row 2)) ≡ true → Finds s t r key (Some (row + 1))
+      hit e = found_as (Some (row + 1)) (Some candidate.value.tree) (splits true e) (omega arith, candidate.value.holds)
 
-        pub missed : same key (name_of s x.first x.end) ≡ false → Seeking s t r key d
-        missed e = record { rest = candidate.others; ahead = names_next a.ahead p candidate; stays = λ o. a.stays o ∙ splits false e }
+      pub missed : same key (name_of s (word t row 1) (word t row 2)) ≡ false → Seeking s t r key d
+      missed e = record { rest = candidate.others; ahead = names_next a.ahead p candidate; stays = λ o. a.stays o ∙ splits false e }
+
+-- the name at a row, as it was read, was compared with the key
+pub read_same : (s key : List ℕ) {t bytes : List ℕ} {row : ℕ} {x : Record} {b : Bool} → Reads t row x → bytes ≡ part s (x.first + 1) (x.end - 1)
+    → b ≡ same key (characters bytes) → same key (name_of s (word t row 1) (word t row 2)) ≡ b
+read_same s key w p e = rw (← w.first, ← w.last, ← p) (sym e)

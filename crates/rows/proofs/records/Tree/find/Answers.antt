@@ -1,9 +1,6 @@
-use mathlib.Core.Path.{◌≡◌, sym, ◌∙◌}
-use Rattle.model.specs.Text.{same}
-use Rattle.chars.specs.Strings.{characters}
-use Rattle.syntax.specs.Grammar.{name_of}
+use mathlib.Core.Path.{◌∙◌}
 use Rattle.rows.proofs.records.Members.{quotes_read}
-use Rattle.rows.proofs.finding.Laws.{seek, seek_end, candidate, hit, missed}
+use Rattle.rows.proofs.finding.Laws.{seek, seek_end, candidate, hit, missed, read_same}
 use Rattle.rows.proofs.records.Tree.find.Goals as goal
 
 pub loop-row-init : goal.loop-row-init
@@ -17,15 +14,11 @@ between-requires c = quotes_read c.row_at-name.ensures (candidate c.loop-row.inv
 
 pub returns-then-same_name : goal.returns-then-same_name
 returns-then-same_name c =
-    let compared : same (characters c.args.key.now) (name_of c.args.self.text.now c.row_at-name.result.first c.row_at-name.result.end) ≡ c.same_name.result =
-    sym (rw c.between.ensures at c.same_name.ensures) in
-    hit c.loop-row.invariant c.in-Some.ensures.steps c.row_at-name.ensures (compared ∙ c.if-same_name.true)
+    hit c.loop-row.invariant c.in-Some.ensures.steps (read_same _ _ c.row_at-name.ensures c.between.ensures c.same_name.ensures ∙ c.if-same_name.true)
 
 pub loop-row-preserved : goal.loop-row-preserved
 loop-row-preserved c =
-    let compared : same (characters c.args.key.now) (name_of c.args.self.text.now c.row_at-name.result.first c.row_at-name.result.end) ≡ c.same_name.result =
-    sym (rw c.between.ensures at c.same_name.ensures) in
-    missed c.loop-row.invariant c.in-Some.ensures.steps c.row_at-name.ensures (compared ∙ c.if-same_name.false)
+    missed c.loop-row.invariant c.in-Some.ensures.steps (read_same _ _ c.row_at-name.ensures c.between.ensures c.same_name.ensures ∙ c.if-same_name.false)
 
 pub returns : goal.returns
 returns c = seek_end c.loop-row.invariant c.in-None.ensures.steps

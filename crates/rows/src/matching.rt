@@ -1,0 +1,132 @@
+// What stands in one object under each name of another. The other's names are indexed by the hash of their characters, so that the time is linear in both.
+ghost use Rattle.std.specs.Prelude.{◌≡◌, true, ◌+◌, ◌≤◌, ◌<◌, length};
+ghost use Rattle.tokens.specs.Spelling.{IsQuoted};
+ghost use Rattle.syntax.specs.Grammar.{name_of};
+ghost use Rattle.syntax.specs.Holding.{word as word_of};
+ghost use Rattle.rows.specs.Records.{InTable, ObjectRow};
+ghost use Rattle.rows.specs.Matching.{most_names, Buckets, HasIndex, Indexes, filled, Fills, Matches};
+
+use crate::records::Tree;
+use chars::{Hashed, hashed_end, same_name};
+
+// How many names an index has room for, in how many buckets.
+pub const MOST_NAMES: usize = 2048;
+
+const BUCKETS: usize = 1024;
+
+// With fewer names on either side they are looked up one by one.
+pub const FEW_NAMES: u32 = 32;
+
+// Whether the names of an object are looked up by an index: both sides have many, and there is room.
+pub fn wide(members: u32, names: u32) -> bool
+    ensures { result ≡ true → names ≤ most_names }
+{
+    members >= FEW_NAMES && names >= FEW_NAMES && names as usize <= MOST_NAMES
+}
+
+// A name: where its bytes begin and end, and the place of the name before it in its bucket.
+#[derive(Clone, Copy, Debug, PartialEq, Eq)]
+struct Entry {
+    first: u32,
+    end: u32,
+    before: Option<u16>,
+}
+
+// What stands at a place where no name is.
+const NO_ENTRY: Entry = Entry {
+    first: 0,
+    end: 0,
+    before: None,
+};
+
+// The names of an object of a tree, in their order, and of each bucket the place of its last name.
+#[derive(Clone, Copy, Debug, PartialEq, Eq)]
+struct Index<'a> {
+    tree: Tree<'a>,
+    heads: [Option<u16>; BUCKETS],
+    names: [Entry; MOST_NAMES],
+}
+
+impl<'a> Index<'a> {
+    // Indexes the names of the object at a row: each leads to the one before it in its bucket.
+    fn of(tree: Tree<'a>, object: usize) -> Index<'a>
+        requires object_row { ObjectRow tree.text.now tree.table.now object }
+        requires few { word_of tree.table.now object 3 ≤ most_names }
+        ensures { Indexes tree.entry.text.now tree.entry.table.now object result }
+    {
+        let mut heads = [None; BUCKETS];
+        let mut names = [NO_ENTRY; MOST_NAMES];
+        for (i, row) in tree.members(object).enumerate() {
+            let name = tree.row_at(row);
+            let b = tree.bucket(name.first);
+            names[i] = Entry {
+                first: name.first,
+                end: name.end,
+                before: heads[b],
+            };
+            heads[b] = Some(i as u16);
+        }
+        Index { tree, heads, names }
+    }
+
+    // A member of another object, its name at a row and its value behind it: found for each indexed name that is the same and has none yet.
+    fn fill(&self, tree: Tree, row: usize, found: &mut [Option<usize>; MOST_NAMES])
+        requires in_table { InTable tree.table.now row }
+        requires quoted { IsQuoted tree.text.now (word_of tree.table.now row 1) (word_of tree.table.now row 2) }
+        requires has_index { HasIndex self.now }
+        requires found_len { length found.old ≡ most_names }
+        ensures { Fills self.now
+            (name_of tree.entry.text.now (word_of tree.entry.table.now row 1) (word_of tree.entry.table.now row 2)) (row + 1) found.old found.new }
+    {
+        let name = tree.row_at(row);
+        let key = tree.between(name.first, name.end);
+        let mut next = self.heads[tree.bucket(name.first)];
+        while let Some(place) = next {
+            let j = place as usize;
+            let entry = self.names[j];
+            let same = same_name(self.tree.between(entry.first, entry.end), key);
+            found[j] = settle(same, row + 1, found[j]);
+            next = entry.before;
+        }
+    }
+}
+
+// What is found for a name behind a member that has it or not, its value at `row`: the first such row counts.
+fn settle(same: bool, row: usize, found: Option<usize>) -> Option<usize>
+    ensures { result ≡ filled same row found }
+{
+    if same { found.or(Some(row)) } else { found }
+}
+
+impl<'a> Tree<'a> {
+    // The bucket of the name whose opening quote is at `first`.
+    fn bucket(self, first: u32) -> usize
+        requires { first < length self.text.now }
+        ensures { Buckets self.entry.text.now first result }
+    {
+        match hashed_end(self.text, first as usize + 1) {
+            Hashed::Name { end: _, hash } => hash as usize / 64,
+            Hashed::Broken { code: _, place: _ } => 0,
+        }
+    }
+
+    // For each member at row `part` of another tree, in order, for which nothing is found yet: the row of the value under its name in the object at a row.
+    pub fn match_names(
+        self,
+        object: usize,
+        other: Tree,
+        part: usize,
+        found: &mut [Option<usize>; MOST_NAMES],
+    )
+        requires object_row { ObjectRow self.text.now self.table.now object }
+        requires object_row_2 { ObjectRow other.text.now other.table.now part }
+        requires part_bound { (word_of other.table.now part 3 ≤ most_names) × (length found.old ≡ most_names) }
+        ensures { Matches self.entry.text.now self.entry.table.now object other.entry.text.now other.entry.table.now part
+            found.old found.new }
+    {
+        let index = Index::of(other, part);
+        for row in self.members(object) {
+            index.fill(self, row, found);
+        }
+    }
+}
