@@ -1,10 +1,10 @@
 // What stands in one object under each name of another. The other's names are indexed by the hash of their characters, so that the time is linear in both.
-ghost use Rattle.std.specs.Prelude.{◌≡◌, true, ◌+◌, ◌≤◌, ◌<◌, length};
+ghost use Rattle.std.specs.Prelude.{◌≡◌, true, ◌+◌, ◌≤◌, ◌<◌, length, replicate};
 ghost use Rattle.tokens.specs.Spelling.{IsQuoted};
 ghost use Rattle.syntax.specs.Grammar.{name_of};
 ghost use Rattle.syntax.specs.Holding.{word as word_of};
 ghost use Rattle.rows.specs.Records.{InTable, ObjectRow};
-ghost use Rattle.rows.specs.Matching.{most_names, Buckets, HasIndex, Indexes, filled, Fills, Matches};
+ghost use Rattle.rows.specs.Matching.{most_names, bucket_count, Buckets, HasIndex, Indexes, filled, Fills, Matches};
 
 use crate::records::Tree;
 use chars::{Hashed, hashed_end, same_name};
@@ -48,25 +48,24 @@ struct Index<'a> {
 }
 
 impl<'a> Index<'a> {
-    // Indexes the names of the object at a row: each leads to the one before it in its bucket.
-    fn of(tree: Tree<'a>, object: usize) -> Index<'a>
-        requires object_row { ObjectRow tree.text.now tree.table.now object }
-        requires few { word_of tree.table.now object 3 ≤ most_names }
-        ensures { Indexes tree.entry.text.now tree.entry.table.now object result }
+    // Indexes the names of the object at a row of the tree: each leads to the one before it in its bucket.
+    fn list(&mut self, object: usize)
+        requires object_row { ObjectRow self.old.tree.text.now self.old.tree.table.now object }
+        requires few { word_of self.old.tree.table.now object 3 ≤ most_names }
+        requires empty { (self.old.heads ≡ replicate bucket_count None) × (length self.old.names ≡ most_names) }
+        ensures { Indexes self.old.tree.text.now self.old.tree.table.now object self.new }
     {
-        let mut heads = [None; BUCKETS];
-        let mut names = [NO_ENTRY; MOST_NAMES];
+        let tree = self.tree;
         for (i, row) in tree.members(object).enumerate() {
             let name = tree.row_at(row);
             let b = tree.bucket(name.first);
-            names[i] = Entry {
+            self.names[i] = Entry {
                 first: name.first,
                 end: name.end,
-                before: heads[b],
+                before: self.heads[b],
             };
-            heads[b] = Some(i as u16);
+            self.heads[b] = Some(i as u16);
         }
-        Index { tree, heads, names }
     }
 
     // A member of another object, its name at a row and its value behind it: found for each indexed name that is the same and has none yet.
@@ -124,7 +123,13 @@ impl<'a> Tree<'a> {
         ensures { Matches self.entry.text.now self.entry.table.now object other.entry.text.now other.entry.table.now part
             found.old found.new }
     {
-        let index = Index::of(other, part);
+        // Filled where it stands, since a struct of this size that a call gives back would be copied, and take the stack twice.
+        let mut index = Index {
+            tree: other,
+            heads: [None; BUCKETS],
+            names: [NO_ENTRY; MOST_NAMES],
+        };
+        index.list(part);
         for row in self.members(object) {
             index.fill(self, row, found);
         }

@@ -70,17 +70,11 @@ pub record Long (hs : List (Option ℕ)) (es : List Entry) : Type 0 where
   pub names : length es ≡ most_names
 
 -- no name is indexed
-abbrev pub no_heads : List (Option ℕ)
-no_heads = replicate bucket_count None
-
-abbrev pub no_entries : List Entry
-no_entries = replicate most_names no_entry
-
-index_none : (s : List ℕ) → Indexed s no_heads no_entries 0
-index_none s = record {
+index_none : (s : List ℕ) (es : List Entry) → Indexed s (replicate bucket_count None) es 0
+index_none s es = record {
   few = omega arith;
   heads = λ b l. ap up_to (get_or-replicate bucket_count b None None l)
-      ∙ sym (last_nothing (bucket_has (bucket_in s no_entries) b) 1 (λ j m. let z : j ≡ 0 = omega arith in rw z));
+      ∙ sym (last_nothing (bucket_has (bucket_in s es) b) 1 (λ j m. let z : j ≡ 0 = omega arith in rw z));
   links = λ j l. absurd (omega arith);
   quoted = λ j l. absurd (omega arith);
 }
@@ -147,11 +141,12 @@ pub record Indexing (s t : List ℕ) (r : ℕ) (hs : List (Option ℕ)) (es : Li
   pub behind : (o : ObjectRow s t r) (j : ℕ) → member_name s rest j ≡ member_name s o.members (i + j)
 
 module _ {s t : List ℕ} {r : ℕ} where
-  pub indexing_start : (o : ObjectRow s t r) {c : Children 1} → Begins t r c → word t r 3 ≤ most_names → Indexing s t r no_heads no_entries 0 c
-  indexing_start o b l = record {
+  pub indexing_start : (o : ObjectRow s t r) {c : Children 1} {hs : List (Option ℕ)} {es : List Entry} → Begins t r c → word t r 3 ≤ most_names
+      → (hs ≡ replicate bucket_count None) × (length es ≡ most_names) → Indexing s t r hs es 0 c
+  indexing_start o {es = es} b l e = record {
     room = omega (arith, b.left);
-    long = record { heads = length-replicate {A = Option ℕ} bucket_count None; names = length-replicate most_names no_entry };
-    index = index_none s;
+    long = record { heads = rw e.0 (length-replicate {A = Option ℕ} bucket_count None); names = e.1 };
+    index = rw e.0 (index_none s es);
     rest = o.members;
     ahead = names_start o b;
     counts = λ p. omega (arith, (names_start p b).members.counts);

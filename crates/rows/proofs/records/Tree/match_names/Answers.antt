@@ -14,4 +14,4 @@ pub loop-row-preserved : goal.loop-row-preserved
 loop-row-preserved c = search_next c.loop-row.invariant c.in-Some.ensures.steps c.fill.ensures
 
 pub returns : goal.returns
-returns c = search_end c.loop-row.invariant c.in-None.ensures.steps c.of-index.ensures
+returns c = search_end c.loop-row.invariant c.in-None.ensures.steps c.list.ensures
