@@ -14,4 +14,5 @@ pub use Rattle.rows.proofs.children.Laws.{NamesLeft, names_start, name_here, nam
 pub use Rattle.rows.proofs.children.Laws.{ItemsLeft, items_start, item_here, items_next, items_end}
 -- what was found for a name, and for many
 pub use Rattle.rows.proofs.finding.Found.{found, not_found}
+pub use Rattle.rows.proofs.finding.Laws.{read_same}
 pub use Rattle.rows.proofs.matching.Laws.{matched_fresh, Answers, answers_start, answers_here, answers_next}

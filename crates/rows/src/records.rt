@@ -50,7 +50,7 @@ impl<'a> Tree<'a> {
     }
 }
 
-// The row of the array or object that a row stands in.
+// The row of the array or object that a row stands in. Whoever climbs has a table alone, and no text (02, L11).
 pub fn parent_at(table: &[u32], row: usize) -> usize
     requires { row_words * (row + 1) ≤ length table.now }
     ensures { result ≡ word_of table.now row 5 }

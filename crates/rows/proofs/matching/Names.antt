@@ -23,7 +23,6 @@ use Rattle.syntax.specs.Holding.{word}
 use Rattle.rows.specs.Records.{Reads, ObjectRow}
 use Rattle.rows.specs.Children.{Passes, Begins}
 use Rattle.rows.specs.Matching.{most_names, bucket_count, member_name, no_entry, entry_at, listed_name, name_bucket, bucket_in, Buckets, up_to, bucket_has, last_in, Indexed}
-use Rattle.rows.specs.Matching.{Lists}
 use Rattle.rows.specs.declared.children.Children.{Children}
 use Rattle.rows.specs.declared.matching.Entry.{Entry}
 use Rattle.rows.specs.declared.records.Record.{Record}
@@ -155,12 +154,6 @@ module _ {s t : List ℕ} {r : ℕ} where
   }
 
   module _ {hs : List (Option ℕ)} {es : List Entry} {i : ℕ} {c : Children 1} (a : Indexing s t r hs es i c) where
-    pub indexing_lists : c.left ≡ 0 → Lists s t r es
-    indexing_lists l = record { tells = λ o j m. a.listed o j (omega (arith, a.counts o)) }
-
-    pub indexing_tells : c.left ≡ 0 → (o : ObjectRow s t r) → Indexed s hs es (count_members o.members)
-    indexing_tells l o = let e : i ≡ count_members o.members = omega (arith, a.counts o) in rw (← e) a.index
-
     module _ {row : ℕ} {d : Children 1} (g : Passes c row d) where
       pub indexing_name : MemberHere s t row a.rest
       indexing_name = name_here a.ahead g
