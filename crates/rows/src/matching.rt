@@ -7,7 +7,7 @@ ghost use Rattle.rows.specs.Records.{InTable, ObjectRow};
 ghost use Rattle.rows.specs.Matching.{most_names, bucket_count, Buckets, HasIndex, Indexes, filled, Fills, Matches};
 
 use crate::records::Tree;
-use chars::{Hashed, hashed_end, same_name};
+use chars::{hashed_end, same_name};
 
 // How many names an index has room for, in how many buckets.
 pub const MOST_NAMES: usize = 2048;
@@ -104,8 +104,8 @@ impl<'a> Tree<'a> {
         ensures { Buckets self.entry.text.now first result }
     {
         match hashed_end(self.text, first as usize + 1) {
-            Hashed::Name { end: _, hash } => hash as usize / 64,
-            Hashed::Broken { code: _, place: _ } => 0,
+            Ok(name) => name.hash as usize / 64,
+            Err(_) => 0,
         }
     }
 
