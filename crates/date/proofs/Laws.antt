@@ -40,6 +40,9 @@ end_not : (l : List ℕ) → None ≡ end_read l → is_end l ≡ false
 end_not l e = by_test (is_end l) (λ t. let h : None ≡ Some (behind_utc (zone_of l)) = rw t at e in cc) (λ f. f)
 
 module _ (s : List ℕ) (d : Date) (day : DayTold s (Some d)) where
+  pub no_letter : Either s d.next 0x54 0x74 None → None ≡ moment_of (characters s)
+  no_letter u = rw (day.0, u (characters s) 10 day.2)
+
   module _ (j : ℕ) (u : Either s d.next 0x54 0x74 (Some j)) where
     letter : EitherTold s (characters s) 10 0x54 0x74 (Some j)
     letter = u (characters s) 10 day.2

@@ -13,6 +13,7 @@ const FIRST: i32 = -719528;
 const LAST: i32 = 2932896;
 
 // The year of the day with a count from 0000-01-01. No year has more than 366 days, so that none before the first one tried is right.
+// A `while`, since `find` over years would answer by an Option that is never None.
 #[tactic(auto, using(model::proofs::DayNumbers::years_most, model::proofs::DayNumbers::years_few))]
 fn year_at(count: u32) -> u32
     requires { count ≤ 3652424 }
@@ -25,7 +26,7 @@ fn year_at(count: u32) -> u32
     year
 }
 
-// The month of the day with a count from the start of its year. No month has more than 31 days.
+// The month of the day with a count from the start of its year. No month has more than 31 days. A `while` as in `year_at`.
 #[tactic(auto, using(model::proofs::DayNumbers::months_most, model::proofs::DayNumbers::months_few))]
 fn month_at(year: u32, count: u32) -> u32
     requires { count < first_months year 12 }

@@ -53,7 +53,8 @@ pub fn two(body: &[u8], at: usize) -> Option<Number>
     })
 }
 
-// The four digits at a place.
+// The four digits at a place: `two` twice, as that is `digit` twice. One function for both would be passed the reader of a half, and its
+// contract would speak of that reader in place of digits, which is no plainer.
 pub fn four(body: &[u8], at: usize) -> Option<Number>
     ensures { (l : List ℕ) (k : ℕ) → Stands body.now at l k → FourTold body.now l k result }
 {

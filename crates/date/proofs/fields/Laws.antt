@@ -1,9 +1,10 @@
--- The day of a date, on plain values: by what is told of its year y, its month m and its day d.
+-- The time and the day of a date, on plain values: by what is told of their numbers.
 use mathlib.Core.Path.{◌≡◌, refl, ◌∙◌}
 use mathlib.Core.List.{List}
 use mathlib.Core.Bool.{false, cond}
-use Prim.Native.Nat.{ℕ, ◌≤◌}
+use Prim.Native.Nat.{ℕ, ◌+◌, ◌*◌, ◌≤◌}
 use native.Mathlib.Omega.{arith}
+use borrow.Author.Tests.{le-leb}
 use Rattle.std.specs.Prelude.{Some, None}
 use Rattle.model.specs.Calendar.{Day, on, in_calendar}
 use Rattle.model.specs.Date.{two_digits, is_day}
@@ -11,8 +12,19 @@ use Rattle.model.proofs.Basics.{by_test, and_ways}
 use Rattle.model.proofs.DateFields.{two_range}
 use Rattle.chars.specs.Strings.{characters}
 use Rattle.date.specs.declared.walk.Number.{Number}
-use Rattle.date.specs.Walk.{FourTold, MarkedTold, DayTold}
+use Rattle.date.specs.Walk.{TwoTold, FourTold, MarkedTold, ClockTold, DayTold}
 
+-- the hour h and the minute m
+pub clock_read :
+    (s l : List ℕ) (k : ℕ) (h m : Number) → TwoTold s l k (Some h) → MarkedTold s l (k + 2) 0x3A (Some m) → h.value ≤ 23 → m.value ≤ 59
+    → ClockTold s l k (Some (record { minutes = 60 * h.value + m.value; next = m.next }))
+clock_read s l k h m t u f g =
+    let third : k + 2 + 1 ≡ k + 3 = omega arith in
+    let fifth : k + 2 + 3 ≡ k + 5 = omega arith in
+    let w = rw (third, fifth) at u in
+    (rw (t.0, w.0, ← t.1, ← w.1, le-leb h.value 23 f, le-leb m.value 59 g), rw (t.1, w.1), w.2)
+
+-- the year y, the month m and the day d
 module _ (s : List ℕ) (y : Number) (t : FourTold s (characters s) 0 (Some y)) where
   pub year_small : y.value ≤ 9999
   year_small =

@@ -1,8 +1,11 @@
--- `date::moment_of` meets its contract: without the time, the second or the end, and with all.
+-- `date::moment_of` meets its contract: without the letter, the time, the second or the end, and with all.
 use mathlib.Core.Path.{◌∙◌}
 use native.Mathlib.Omega.{arith}
-use Rattle.date.proofs.Laws.{no_time, no_second, no_end, times_small, all_read}
+use Rattle.date.proofs.Laws.{no_letter, no_time, no_second, no_end, times_small, all_read}
 use Rattle.date.proofs.moment_of.Goals as goal
+
+pub returns-in_err-time : goal.returns-in_err-time
+returns-in_err-time c = c.from_residual-in_err-time.ensures ∙ no_letter _ _ c.in_ok-day.ensures c.in_err-time.ensures
 
 pub returns-in_err-minutes : goal.returns-in_err-minutes
 returns-in_err-minutes c =

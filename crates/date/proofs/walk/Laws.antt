@@ -1,16 +1,15 @@
 -- The walk over the characters of a string, on plain values: what is told of a place by what is told of the steps from it.
 use mathlib.Core.Path.{◌≡◌, refl, sym, ap, subst, ◌∙◌}
-use mathlib.Core.List.{List, []}
+use mathlib.Core.List.{List}
 use mathlib.Core.Bool.{Bool, true, false, not}
-use Prim.Native.Nat.{ℕ, ◌+◌, ◌-◌, ◌≤◌, ◌<◌}
+use Prim.Native.Nat.{ℕ, ◌+◌, ◌-◌, ◌≤◌}
 use native.Mathlib.Nat.{add-zero}
 use native.Mathlib.Omega.{arith}
 use lib.ListN.{length, drop, length-drop}
 use lib.Seq.{get_or-drop, drop-drop}
-use lib.Dec.{leb, eqb}
-use borrow.Author.Tests.{le-leb, lt-leb, eq-eqb, ne_eqb}
+use lib.Dec.{leb}
+use borrow.Author.Tests.{le-leb, lt-leb, eq-eqb}
 use Rattle.std.specs.Prelude.{Option, Some, None, is_some}
-use Rattle.model.specs.Value.{is_digit}
 use Rattle.model.specs.Date.{at}
 use Rattle.chars.specs.declared.characters.Character.{Character}
 use Rattle.chars.specs.Bytes.{byte_at}
@@ -41,40 +40,17 @@ module _ (s l : List ℕ) (k v j : ℕ) (t : CharTold s l k (Some (character v j
   pub digit_told : 0x30 ≤ v → v ≤ 0x39 → DigitTold s l k (Some (record { value = v - 0x30; next = j }))
   digit_told lo hi = (rw (first_is, le-leb 0x30 v lo, le-leb v 0x39 hi), rw first_is, rest_is)
 
-  pub below_digits : v < 0x30 → is_digit (at l k) ≡ false
-  below_digits h = rw (first_is, lt-leb 0x30 v h)
-
-  pub above_digits : 0x39 < v → is_digit (at l k) ≡ false
-  above_digits h = rw (first_is, le-leb 0x30 v (omega arith), lt-leb v 0x39 h)
-
   pub mark_told : (c : ℕ) → v ≡ c → MarkTold s l k c (Some j)
   mark_told c h = (rw first_is (eq-eqb v c h), rest_is)
 
-  pub mark_other : (c : ℕ) → (v ≡ c → ⊥) → eqb (at l k) c ≡ false
-  mark_other c h = rw first_is (ne_eqb v c h)
-
-  pub more : leb (length l) k ≡ false
+  more : leb (length l) k ≡ false
   more = lt-leb (length l) k (omega (arith, length-drop k l, ap length t))
-
--- none
-module _ (l : List ℕ) (k : ℕ) (t : drop k l ≡ []) where
-  none_is : at l k ≡ 0
-  none_is = sym (at_drop l k) ∙ ap (λ (t : List ℕ). at t 0) t
-
-  pub no_digit : is_digit (at l k) ≡ false
-  no_digit = rw none_is
-
-  pub no_mark : (c : ℕ) → 0 < c → eqb (at l k) c ≡ false
-  no_mark c h = rw none_is (ne_eqb 0 c (λ z. omega arith))
-
-  pub ended : leb (length l) k ≡ true
-  ended = le-leb (length l) k (omega (arith, length-drop k l, ap length t))
 
 -- whether the string ends there
 pub end_told : (s l : List ℕ) (k : ℕ) (a : Option Character) → CharTold s l k a → (r : Bool) → is_some a ≡ not r → r ≡ leb (length l) k
 end_told s l k (Some c) t true e = (cc)
 end_told s l k (Some c) t false e = sym (more s l k c.value c.next t)
-end_told s l k None t true e = sym (ended l k t)
+end_told s l k None t true e = sym (le-leb (length l) k (omega (arith, length-drop k l, ap length t)))
 end_told s l k None t false e = (cc)
 
 -- the byte b is a digit, whose number is v
