@@ -5,6 +5,11 @@ ghost use Rattle.console.specs.Line.{numbers_line};
 use std::fmt;
 use std::fmt::Display;
 
+// Prints a value.
+pub fn print(rt: &impl Print, value: impl Display + Drop) {
+    let _ = rt.print(value);
+}
+
 // Prints a value, and the end of the line.
 pub fn line(rt: &impl Print, value: impl Display + Drop) {
     let _ = rt.println(value);

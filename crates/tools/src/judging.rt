@@ -1,10 +1,12 @@
 // The commands over a document and a schema.
 use console::{Excerpt, Numbers, line, put};
 use schema::PATH_WORDS;
-use syntax::Answer;
 
 // Room for every pointer: each byte of the document gives at most two.
 const POINTER: usize = 131072;
+
+// Texts and tables are parameters of their own, here and in `explain`, as those of the services are, whose C interface has them so: a struct would be
+// taken apart again at once.
 
 // `dates DOCUMENT SCHEMA`. On 0 the second line is how many dates there are, the earliest and the latest.
 pub fn dates(
@@ -36,7 +38,7 @@ pub fn explain(
     let explained = explain::explain(document, schema, table1, table2, &mut pointer);
     let answer = explained.answer;
     line(rt, answer);
-    let Some(misfit) = Misfit::of(answer) else {
+    let Some(misfit) = Misfit::from_code(answer.code) else {
         return;
     };
     let length = explained.length.min(POINTER);
@@ -67,9 +69,9 @@ enum Misfit {
 }
 
 impl Misfit {
-    // What an answer of Check tells, on 20 to 22.
-    fn of(answer: Answer) -> Option<Self> {
-        match answer.code {
+    // What Check tells by a code, 20 to 22.
+    fn from_code(code: u32) -> Option<Self> {
+        match code {
             20 => Some(Misfit::Kind),
             21 => Some(Misfit::Name),
             22 => Some(Misfit::Date),

@@ -1,8 +1,8 @@
 // The commands, a function for each. It takes the fields behind the command's name and writes the
 // answer; where they are not of its form it writes nothing.
 use crate::fields::{decode, number, split_at_tab};
-use crate::lines::{BadLine, put, words};
-use console::TABLE;
+use crate::lines::{BadLine, words};
+use console::{TABLE, print};
 use schema::PATH_WORDS;
 use syntax::Answer;
 
@@ -29,7 +29,7 @@ pub fn run(rt: &impl Print, line: &[u8]) -> Result<(), BadLine> {
 fn read(rt: &impl Print, field: &[u8], table: &mut [u32]) -> Result<(), BadLine> {
     let mut text = [0u8; TEXT];
     let text = decode(field, &mut text).ok_or(BadLine)?;
-    put(rt, reader::read(text, table));
+    print(rt, reader::read(text, table));
     Ok(())
 }
 
@@ -59,7 +59,7 @@ fn judge<F: FnOnce(&[u8], &[u8], &mut [u32], &mut [u32]) -> Answer>(
     let text2 = decode(second, &mut text2).ok_or(BadLine)?;
     let mut table1 = [0u32; TABLE];
     let mut table2 = [0u32; TABLE];
-    put(rt, service(text1, text2, &mut table1, &mut table2));
+    print(rt, service(text1, text2, &mut table1, &mut table2));
     Ok(())
 }
 

@@ -1,4 +1,5 @@
 // What a line is answered by.
+use console::print;
 use std::error::Error;
 use std::fmt;
 
@@ -14,15 +15,10 @@ impl fmt::Display for BadLine {
 
 impl Error for BadLine {}
 
-// Prints a value. Where the output takes none, it differs from the file stdout, which tells it.
-pub fn put(rt: &impl Print, value: impl fmt::Display + Drop) {
-    let _ = rt.print(value);
-}
-
 // The words of a table, behind its answer.
 pub fn words(rt: &impl Print, table: &[u32]) {
-    put(rt, " |");
+    print(rt, " |");
     for word in table {
-        put(rt, format_args!(" {word}"));
+        print(rt, format_args!(" {word}"));
     }
 }

@@ -21,8 +21,7 @@ mod commands;
 mod fields;
 mod lines;
 
-use console::read_full;
-use lines::put;
+use console::{print, put, read_full};
 use std::io::Input;
 
 const INPUT: usize = 65536;
@@ -45,10 +44,10 @@ fn each_line(rt: &impl Print, input: &[u8]) {
 fn run(rt: &impl Print, line: &[u8]) {
     if !line.is_empty() && line[0] != b'#' {
         if let Err(bad_line) = commands::run(rt, line) {
-            put(rt, bad_line);
+            print(rt, bad_line);
         }
-        put(rt, "\t");
+        put(rt, b"\t");
     }
-    console::put(rt, line);
-    put(rt, "\n");
+    put(rt, line);
+    put(rt, b"\n");
 }
