@@ -1,27 +1,30 @@
 // The command that the program was started with.
+use crate::files::argument;
 use std::env::FillError;
 use std::rt::Env;
 
-// Whether the program was started with this command, and with as many arguments as it takes: its
-// own name and the command among them.
-pub fn asks(rt: &impl Env, command: &[u8], count: usize) -> bool {
-    if !has_count(rt, count) {
-        return false;
-    }
+// A command, its name, and how many arguments it takes: the program's own name and the command's among them.
+#[derive(Clone, Copy, Debug, PartialEq, Eq)]
+pub struct Usage<C> {
+    pub name: &'static str,
+    pub count: usize,
+    pub command: C,
+}
+
+// The first command that the program was started with, and with as many arguments as it takes.
+pub fn asked<C: Copy>(rt: &impl Env, usages: &[Usage<C>]) -> Option<C> {
     // room for the longest command, and a longer word is none
     let mut word = [0u8; 16];
-    match rt.arg(1, &mut word) {
-        Ok(n) => &word[..n] == command,
-        Err(_) => false,
-    }
+    let word = argument(rt, 1, &mut word).ok()?;
+    usages
+        .iter()
+        .find(|usage| usage.name == word && has_count(rt, usage.count))
+        .map(|usage| usage.command)
 }
 
 // Whether there are so many arguments, the program's own name among them.
 fn has_count(rt: &impl Env, count: usize) -> bool {
-    if count > 0 && !is_there(rt, count - 1) {
-        return false;
-    }
-    !is_there(rt, count)
+    (count == 0 || is_there(rt, count - 1)) && !is_there(rt, count)
 }
 
 // Whether there is an argument i. No room is needed to tell: an argument that has no room is there.

@@ -1,76 +1,78 @@
 // The line of a text in which a place lies, and a mark under the place.
 ghost use Rattle.std.specs.Prelude.{◌≤◌, ◌<◌, length};
 
-use crate::lines::{put, put_decimal};
+use crate::lines::{line, put};
 
 // How many bytes of a line are shown before the place, and how many from it on.
 const SHOWN: usize = 60;
 
-// Prints the line in which a place of a text lies, or what is near the place if it is long, and a line with a mark under the place. Behind the mark
-// stand the name of the text, the number of the line and what is said of the place.
-pub fn excerpt(rt: &impl Print, text: &[u8], place: u32, name: &[u8], words: &[u8]) {
-    let at = within(text, place);
-    let first = first_shown(text, at);
-    let end = end_shown(text, at);
-    let cut = !is_line_start(text, first);
-    if cut {
-        put(rt, b"...");
+// A text, what it is called, a place of it, and what is said of the place. The text is bytes: no contract of a service says that what it read is UTF-8.
+#[derive(Clone, Copy, Debug, PartialEq, Eq)]
+pub struct Excerpt<'a> {
+    pub text: &'a [u8],
+    pub name: &'a str,
+    pub place: u32,
+    pub words: &'a str,
+}
+
+impl Excerpt<'_> {
+    // Prints the line in which the place lies, or what is near the place if it is long, and a line with a mark under the place. Behind the mark
+    // stand the name of the text, the number of the line and what is said of the place.
+    pub fn print(self, rt: &impl Print) {
+        let Excerpt {
+            text,
+            name,
+            place,
+            words,
+        } = self;
+        let at = within(text, place);
+        let first = first_shown(text, at);
+        let end = end_shown(text, at);
+        let cut = !is_line_start(text, first);
+        if cut {
+            put(rt, b"...");
+        }
+        put(rt, &text[first..end]);
+        if !is_line_end(text, end) {
+            put(rt, b"...");
+        }
+        put(rt, b"\n");
+        if cut {
+            put(rt, b"   ");
+        }
+        pad(rt, &text[first..at]);
+        let number = line_number(text, at);
+        line(rt, format_args!("^ {name}, line {number}: {words}"));
     }
-    put(rt, &text[first..end]);
-    if !is_line_end(text, end) {
-        put(rt, b"...");
-    }
-    put(rt, b"\n");
-    if cut {
-        put(rt, b"   ");
-    }
-    pad(rt, &text[first..at]);
-    put(rt, b"^ ");
-    put(rt, name);
-    put(rt, b", line ");
-    put_decimal(rt, line_number(text, at) as u64);
-    put(rt, b": ");
-    put(rt, words);
-    put(rt, b"\n");
 }
 
 // A place in a text, at most its end.
 fn within(text: &[u8], place: u32) -> usize
     ensures { result ≤ length text.now }
 {
-    let at = place as usize;
-    if at < text.len() {
-        return at;
-    }
-    text.len()
+    text.len().min(place as usize)
 }
 
 // A line ends with LF, CR or both.
 fn ends_line(byte: u8) -> bool {
-    byte == b'\n' || byte == b'\r'
+    matches!(byte, b'\n' | b'\r')
 }
 
 // A byte of UTF-8 that goes on with a character.
 fn goes_on(byte: u8) -> bool {
-    byte >= 0x80 && byte < 0xc0
+    matches!(byte, 0x80..=0xbf)
 }
 
 // Whether a line starts at a place.
 fn is_line_start(text: &[u8], at: usize) -> bool
     requires { at ≤ length text.now }
 {
-    if at == 0 {
-        return true;
-    }
-    ends_line(text[at - 1])
+    text[..at].last().is_none_or(|byte| ends_line(*byte))
 }
 
 // Whether a line ends before the byte at a place.
 fn is_line_end(text: &[u8], at: usize) -> bool {
-    if at >= text.len() {
-        return true;
-    }
-    ends_line(text[at])
+    text.get(at).is_none_or(|byte| ends_line(*byte))
 }
 
 // Where the line starts, but no more than so many bytes before the place.
@@ -78,14 +80,8 @@ fn line_start(text: &[u8], at: usize) -> usize
     requires { at ≤ length text.now }
     ensures { result ≤ at }
 {
-    let mut i = at;
-    while i > 0 {
-        if at - i == SHOWN || ends_line(text[i - 1]) {
-            break;
-        }
-        i -= 1;
-    }
-    i
+    let before = text[..at].iter().rev().take(SHOWN);
+    at - before.take_while(|byte| !ends_line(**byte)).count()
 }
 
 // The first byte that is shown: no character is cut.
@@ -93,14 +89,9 @@ fn first_shown(text: &[u8], at: usize) -> usize
     requires { at ≤ length text.now }
     ensures { result ≤ at }
 {
-    let mut i = line_start(text, at);
-    while i < at {
-        if !goes_on(text[i]) {
-            break;
-        }
-        i += 1;
-    }
-    i
+    let start = line_start(text, at);
+    let shown = text[start..at].iter();
+    start + shown.take_while(|byte| goes_on(**byte)).count()
 }
 
 // Where the line ends, but no more than so many bytes from the place on.
@@ -108,14 +99,8 @@ fn line_end(text: &[u8], at: usize) -> usize
     requires { at ≤ length text.now }
     ensures { (at ≤ result) × (result ≤ length text.now) }
 {
-    let mut i = at;
-    while i < text.len() {
-        if i - at == SHOWN || ends_line(text[i]) {
-            break;
-        }
-        i += 1;
-    }
-    i
+    let behind = text[at..].iter().take(SHOWN);
+    at + behind.take_while(|byte| !ends_line(**byte)).count()
 }
 
 // The byte behind the last that is shown: no character is cut.
@@ -123,24 +108,18 @@ fn end_shown(text: &[u8], at: usize) -> usize
     requires { at ≤ length text.now }
     ensures { (at ≤ result) × (result ≤ length text.now) }
 {
-    let mut i = line_end(text, at);
-    while i > at {
-        if i == text.len() || !goes_on(text[i]) {
-            break;
-        }
-        i -= 1;
+    let end = line_end(text, at);
+    if end == text.len() {
+        return end;
     }
-    i
+    let shown = text[at + 1..=end].iter().rev();
+    end - shown.take_while(|byte| goes_on(**byte)).count()
 }
 
 // Prints a space for each character, and a tab for a tab.
 fn pad(rt: &impl Print, shown: &[u8]) {
-    for byte in shown {
-        if *byte == b'\t' {
-            put(rt, b"\t");
-        } else if !goes_on(*byte) {
-            put(rt, b" ");
-        }
+    for byte in shown.iter().filter(|byte| !goes_on(**byte)) {
+        put(rt, if *byte == b'\t' { b"\t" } else { b" " });
     }
 }
 
@@ -148,31 +127,16 @@ fn pad(rt: &impl Print, shown: &[u8]) {
 fn line_number(text: &[u8], at: usize) -> usize
     requires { at ≤ length text.now }
 {
-    let mut n = 1;
-    let mut i = 0;
-    while i < at {
-        n += ends_with(text, i);
-        i += 1;
-    }
-    n
+    1 + (0..at).filter(|i| ends_with(text, *i)).count()
 }
 
-// How many lines end with the byte at a place: 1 or 0. Of CR and LF it is the LF.
-fn ends_with(text: &[u8], at: usize) -> usize
+// Whether a line ends with the byte at a place. Of CR and LF it is the LF.
+fn ends_with(text: &[u8], at: usize) -> bool
     requires { at < length text.now }
-    ensures { result ≤ 1 }
 {
-    if text[at] == b'\n' {
-        return 1;
+    match text[at] {
+        b'\n' => true,
+        b'\r' => text.get(at + 1) != Some(&b'\n'),
+        _ => false,
     }
-    if text[at] != b'\r' {
-        return 0;
-    }
-    let next = at + 1;
-    if next < text.len() {
-        if text[next] == b'\n' {
-            return 0;
-        }
-    }
-    1
 }

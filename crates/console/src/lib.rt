@@ -5,11 +5,19 @@ mod commands;
 mod excerpts;
 mod files;
 mod lines;
-mod modes;
 mod saving;
 
-pub use commands::asks;
-pub use excerpts::excerpt;
-pub use files::{Loaded, load};
-pub use lines::{answer, line, no_file, three};
+pub use commands::{Usage, asked};
+pub use excerpts::Excerpt;
+pub use files::{Broken, NoFile, load, read_full};
+pub use lines::{Numbers, line, print, put};
 pub use saving::save;
+
+// The limit of a document, in bytes.
+pub const LIMIT: usize = 65536;
+
+// One byte over it, so that a longer file gives the service a text over its limit, be it a document or a schema.
+pub const TEXT: usize = LIMIT + 1;
+
+// 01: "Its tables have 16,380 words each".
+pub const TABLE: usize = 16380;

@@ -1,63 +1,34 @@
-// The lines that a program prints.
-ghost use Rattle.std.specs.Prelude.{◌≡◌, nat_abs};
+// The lines that a program prints. Where the output takes none there is nothing else by which that could be told.
+ghost use Rattle.std.specs.Prelude.{Some};
+ghost use Rattle.console.specs.Line.{numbers_line};
 
-use syntax::Answer;
+use std::fmt;
+use std::fmt::Display;
 
-// 01: "Other arguments, or a file that can't be opened, give the line `no file`".
-pub fn no_file(rt: &impl Print) {
-    put(rt, b"no file\n");
+// Prints a value.
+pub fn print(rt: &impl Print, value: impl Display + Drop) {
+    let _ = rt.print(value);
 }
 
-// 01: "the four numbers in decimal on one line, a space between".
-pub fn answer(rt: &impl Print, a: Answer) {
-    number(rt, a.code, b" ");
-    number(rt, a.text, b" ");
-    number(rt, a.place, b" ");
-    number(rt, a.other, b"\n");
+// Prints a value, and the end of the line.
+pub fn line(rt: &impl Print, value: impl Display + Drop) {
+    let _ = rt.println(value);
 }
 
-// Bytes, and the end of the line.
-pub fn line(rt: &impl Print, bytes: &[u8]) {
-    put(rt, bytes);
-    put(rt, b"\n");
-}
-
-// Prints bytes. Where the output takes none there is nothing else by which that could be told.
-pub(crate) fn put(rt: &impl Print, bytes: &[u8]) {
+// Prints bytes, which need not be text.
+pub fn put(rt: &impl Print, bytes: &[u8]) {
     let _ = rt.write_all(bytes);
 }
 
-// Prints a number in decimal.
-pub(crate) fn put_decimal(rt: &impl Print, n: u64) {
-    let _ = rt.print(n);
-}
+// Three numbers in the form of an answer's four; `-` stands before one below 0.
+#[derive(Clone, Copy, Debug, PartialEq, Eq)]
+pub struct Numbers(pub [i64; 3]);
 
-fn number(rt: &impl Print, n: u32, behind: &[u8]) {
-    put_decimal(rt, u64::from(n));
-    put(rt, behind);
-}
+impl Display for Numbers {
+    ghost output = { λ n. Some (numbers_line n) };
 
-// Three numbers in the same form; `-` stands before one below 0.
-pub fn three(rt: &impl Print, numbers: [i64; 3]) {
-    signed(rt, numbers[0], b" ");
-    signed(rt, numbers[1], b" ");
-    signed(rt, numbers[2], b"\n");
-}
-
-fn signed(rt: &impl Print, n: i64, behind: &[u8]) {
-    if n < 0 {
-        put(rt, b"-");
+    fn fmt<W: fmt::Write>(&self, f: &mut fmt::Formatter<W>) -> fmt::Result {
+        let [first, second, third] = self.0;
+        write!(f, "{first} {second} {third}")
     }
-    put_decimal(rt, size_of(n));
-    put(rt, behind);
-}
-
-// A number without its sign. The least has no opposite among those of its type, so that 1 is added first.
-fn size_of(n: i64) -> u64
-    ensures { result ≡ nat_abs n }
-{
-    if n < 0 {
-        return (-(n + 1)) as u64 + 1;
-    }
-    n as u64
 }

@@ -7,13 +7,12 @@
 //
 // What else may have the name cannot be replaced so, and is no file: a folder, a device, a pipe, and
 // a link, which would be cut off from what it leads to.
-ghost use Rattle.console.specs.Loaded.{IsPrefixLen};
+ghost use Rattle.std.specs.Prelude.{◌≡◌, ◌++◌, IfSome};
 
-use crate::files::PATH_MAX;
-use crate::modes::{is_file, mode_of, rights};
+use crate::files::{NoFile, PATH_MAX, argument};
 use std::fs::{OpenFile, OpenOptions, Permissions};
 use std::io::{ErrorKind, Write};
-use std::os::unix::fs::{OpenOptionsExt, PermissionsExt};
+use std::os::unix::fs::{MetadataExt, OpenOptionsExt, PermissionsExt};
 use std::random::RandomSource;
 use std::rt::{Env, Files};
 use std::{fs, io, str};
@@ -23,25 +22,21 @@ const FOR_ALL: u32 = 0o666;
 
 const FOR_OWNER: u32 = 0o600;
 
+// The bits of a mode that say who may do what. The three above them, by which a program runs as its
+// owner, are left out: a new file may have another owner.
+const RIGHTS: u32 = 0o777;
+
 // How many names are tried for a temporary file: as many as the C library's `mkstemp` tries, 62 to the third.
 const TRIES: usize = 238_328;
 
-// Writes the file that argument i names, and tells whether it could.
-pub fn save(rt: &(impl Env + Files + RandomSource), i: usize, bytes: &[u8]) -> bool {
+// Writes the file that argument i names.
+pub fn save(rt: &(impl Env + Files + RandomSource), i: usize, bytes: &[u8]) -> Result<(), NoFile> {
     let mut path = [0u8; PATH_MAX];
-    // an argument that is missing, or that is no path since it is too long
-    let Ok(n) = rt.arg(i, &mut path) else {
-        return false;
-    };
-    let beside = path;
-    // a name that is not UTF-8, as the paths of std are
-    let Ok(path) = str::from_utf8(&path[..n]) else {
-        return false;
-    };
+    let path = argument(rt, i, &mut path)?;
     match create(rt, path, FOR_ALL) {
-        Ok(file) => write_new(rt, file, bytes, path),
-        Err(error) => error.kind() == ErrorKind::AlreadyExists
-            && save_over(rt, path, beside, bytes),
+        Ok(file) => Ok(write_new(rt, file, bytes, path)?),
+        Err(error) if error.kind() == ErrorKind::AlreadyExists => save_over(rt, path, bytes),
+        Err(error) => Err(error.into()),
     }
 }
 
@@ -55,19 +50,14 @@ fn create<R: Files>(rt: &R, path: &str, mode: u32) -> io::Result<R::File> {
 }
 
 // Writes a file that was made just now, and removes it where that fails.
-fn write_new<R: Files>(rt: &R, file: R::File, bytes: &[u8], path: &str) -> bool {
-    if write_synced(file, bytes) {
-        return true;
-    }
-    remove(rt, path);
-    false
+fn write_new<R: Files>(rt: &R, file: R::File, bytes: &[u8], path: &str) -> io::Result<()> {
+    write_synced(file, bytes).inspect_err(|_| remove(rt, path))
 }
 
 // Writes a file and closes it. A disk may refuse bytes as late as when they are synced.
-fn write_synced<F: Write + OpenFile + Drop>(mut file: F, bytes: &[u8]) -> bool {
-    let written = file.write_all(bytes).is_ok();
-    let synced = file.sync_all().is_ok();
-    written && synced
+fn write_synced<F: Write + OpenFile + Drop>(mut file: F, bytes: &[u8]) -> io::Result<()> {
+    file.write_all(bytes)?;
+    file.sync_all()
 }
 
 // Removes a file that was made here. Where that fails there is nothing else to do.
@@ -75,62 +65,42 @@ fn remove(rt: &impl Files, path: &str) {
     let _ = fs::remove_file(rt, path);
 }
 
-// Writes a file whose name is taken.
-fn save_over(
-    rt: &(impl Files + RandomSource),
-    path: &str,
-    beside: [u8; PATH_MAX],
-    bytes: &[u8],
-) -> bool {
-    if is_link(rt, path) {
-        return false;
+// Writes a file whose name is taken: it is one of bytes that may be written, and no link.
+fn save_over(rt: &(impl Files + RandomSource), path: &str, bytes: &[u8]) -> Result<(), NoFile> {
+    if fs::symlink_metadata(rt, path).is_ok_and(|link| link.is_symlink()) {
+        return Err(NoFile);
     }
-    let mode = mode_at(rt, path);
-    if !is_file(mode) {
-        return false;
+    let file = OpenOptions::new().read(true).write(true).open(rt, path)?;
+    let metadata = file.metadata()?;
+    if !metadata.is_file() {
+        return Err(NoFile);
     }
-    replace(rt, path, beside, rights(mode), bytes)
+    let rights = Permissions::from_mode(metadata.mode() & RIGHTS);
+    replace(rt, path, rights, bytes)
 }
 
-// Whether a path names a link.
-fn is_link(rt: &impl Files, path: &str) -> bool {
-    match fs::symlink_metadata(rt, path) {
-        Ok(metadata) => metadata.is_symlink(),
-        Err(_) => false,
-    }
-}
-
-// The mode of what a path names, if it may be written; else 0.
-fn mode_at(rt: &impl Files, path: &str) -> u32 {
-    match OpenOptions::new().read(true).write(true).open(rt, path) {
-        Ok(file) => mode_of(&file),
-        Err(_) => 0,
-    }
-}
-
-// Puts a new file with these rights in the place of the one at a path, which `beside` holds too.
+// Puts a new file with these rights in the place of the one at a path.
 fn replace(
     rt: &(impl Files + RandomSource),
     path: &str,
-    mut beside: [u8; PATH_MAX],
-    rights: u32,
+    rights: Permissions,
     bytes: &[u8],
-) -> bool {
-    let n = put_name(&mut beside, folder_len(path.as_bytes()));
-    for i in 0..TRIES {
-        if !put_letters(rt, i, &mut beside[..n]) {
-            return false;
-        }
-        let Ok(name) = str::from_utf8(&beside[..n]) else {
-            return false;
-        };
-        match create(rt, name, FOR_OWNER) {
-            Ok(file) => return replace_by(rt, path, file, name, rights, bytes),
+) -> Result<(), NoFile> {
+    let mut room = [0u8; PATH_MAX];
+    for tried in 0..TRIES {
+        let beside = put_path(
+            &mut room,
+            folder(path).as_bytes(),
+            &temporary_name(rt, tried),
+        );
+        let beside = str::from_utf8(beside.ok_or(NoFile)?)?;
+        match create(rt, beside, FOR_OWNER) {
+            Ok(file) => return Ok(replace_by(rt, path, file, beside, rights, bytes)?),
             Err(error) if error.kind() == ErrorKind::AlreadyExists => {}
-            Err(_) => return false,
+            Err(error) => return Err(error.into()),
         }
     }
-    false
+    Err(NoFile)
 }
 
 // The same, by way of a temporary file of this name.
@@ -138,66 +108,47 @@ fn replace_by<R: Files>(
     rt: &R,
     path: &str,
     file: R::File,
-    name: &str,
-    rights: u32,
+    beside: &str,
+    rights: Permissions,
     bytes: &[u8],
-) -> bool {
-    let allowed = file.set_permissions(Permissions::from_mode(rights)).is_ok();
-    if !write_new(rt, file, bytes, name) {
-        return false;
-    }
-    if allowed && fs::rename(rt, name, path).is_ok() {
-        return true;
-    }
-    remove(rt, name);
-    false
+) -> io::Result<()> {
+    let allowed = file.set_permissions(rights);
+    write_new(rt, file, bytes, beside)?;
+    allowed
+        .and_then(|()| fs::rename(rt, beside, path))
+        .inspect_err(|_| remove(rt, beside))
 }
 
-// How many bytes of a path name its folder, with the last slash.
-fn folder_len(path: &[u8]) -> usize {
-    let mut n = path.len();
-    while n > 0 {
-        if path[n - 1] == b'/' {
-            break;
-        }
-        n -= 1;
+// What of a path names its folder, with the last slash.
+fn folder(path: &str) -> &str {
+    match path.rsplit_once('/') {
+        Some((_, name)) => &path[..path.len() - name.len()],
+        None => "",
     }
-    n
 }
 
-// Puts the name of a temporary file behind the first bytes of buf, and tells where it ends; 0, so
-// that there is no name, where buf has no room for it.
-fn put_name(buf: &mut [u8], from: usize) -> usize
-    ensures { IsPrefixLen result buf.new }
+// Puts a path at the start of buf, where there is room: a folder, and a name behind it.
+fn put_path<'a>(buf: &'a mut [u8], folder: &[u8], name: &[u8]) -> Option<&'a [u8]>
+    ensures { IfSome result (λ path. path.now ≡ folder.now ++ name.now) }
 {
-    let name = b".teleport-XXXXXX";
-    if buf.len() < from {
-        return 0;
+    let end = folder.len() + name.len();
+    if buf.len() < end {
+        return None;
     }
-    if buf.len() - from < name.len() {
-        return 0;
-    }
-    let mut i = 0;
-    while i < name.len() {
-        buf[from + i] = name[i];
-        i += 1;
-    }
-    from + i
+    buf[..folder.len()].copy_from_slice(folder);
+    buf[folder.len()..end].copy_from_slice(name);
+    Some(&buf[..end])
 }
 
-// Puts six letters at the end of a name, other ones for each try, and tells whether there is room. Where the system has no random bytes, they go by the
-// number of the try alone.
-fn put_letters(rt: &impl RandomSource, tried: usize, name: &mut [u8]) -> bool {
+// The name of a temporary file, with other letters for each try. Where the system has no random bytes, they go by the number of the try alone.
+fn temporary_name(rt: &impl RandomSource, tried: usize) -> [u8; 16] {
     let mut random = [0u8; 6];
-    if name.len() < random.len() {
-        return false;
-    }
     let _ = rt.fill_bytes(&mut random);
-    let start = name.len() - random.len();
+    let mut name = *b".teleport-XXXXXX";
     let mut rest = tried;
-    for i in 0..random.len() {
-        name[start + i] = b'a' + ((random[i] as usize + rest % 26) % 26) as u8;
+    for (letter, byte) in name[10..].iter_mut().zip(random) {
+        *letter = b'a' + ((usize::from(byte) + rest % 26) % 26) as u8;
         rest /= 26;
     }
-    true
+    name
 }

@@ -5,3 +5,4 @@ pub mod Spelling
 pub mod Rows
 pub mod Answer
 pub mod Holding
+pub mod Line

@@ -1,6 +1,9 @@
 // 01: "An answer is four numbers: code, text (0 none, 1, 2), place (a byte offset from 0), other."
-ghost use Rattle.std.specs.Prelude.{◌≡◌};
+ghost use Rattle.std.specs.Prelude.{◌≡◌, Some};
 ghost use Rattle.syntax.specs.Answer.{answer};
+ghost use Rattle.syntax.specs.Line.{answer_line};
+
+use std::fmt;
 
 #[derive(Clone, Copy, Debug, PartialEq, Eq)]
 pub struct Answer {
@@ -20,5 +23,20 @@ impl Answer {
             place,
             other,
         }
+    }
+}
+
+// 01: "the four numbers in decimal on one line, a space between".
+impl fmt::Display for Answer {
+    ghost output = { λ a. Some (answer_line a) };
+
+    fn fmt<W: fmt::Write>(&self, f: &mut fmt::Formatter<W>) -> fmt::Result {
+        let Answer {
+            code,
+            text,
+            place,
+            other,
+        } = *self;
+        write!(f, "{code} {text} {place} {other}")
     }
 }

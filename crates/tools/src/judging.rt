@@ -1,12 +1,12 @@
 // The commands over a document and a schema.
-ghost use Rattle.std.specs.Prelude.{◌≤◌};
-
-use console::{answer, excerpt, line, three};
+use console::{Excerpt, Numbers, line, put};
 use schema::PATH_WORDS;
-use syntax::Answer;
 
 // Room for every pointer: each byte of the document gives at most two.
 const POINTER: usize = 131072;
+
+// Texts and tables are parameters of their own, here and in `explain`, as those of the services are, whose C interface has them so: a struct would be
+// taken apart again at once.
 
 // `dates DOCUMENT SCHEMA`. On 0 the second line is how many dates there are, the earliest and the latest.
 pub fn dates(
@@ -18,10 +18,10 @@ pub fn dates(
 ) {
     let mut dates = [0i64; 3];
     let mut path = [0u32; PATH_WORDS];
-    let r = schema::check(document, schema, table1, table2, &mut dates, &mut path);
-    answer(rt, r.answer);
-    if r.answer.code == 0 {
-        three(rt, dates);
+    let answer = schema::check(document, schema, table1, table2, &mut dates, &mut path).answer;
+    line(rt, answer);
+    if answer.code == 0 {
+        line(rt, Numbers(dates));
     }
 }
 
@@ -35,43 +35,64 @@ pub fn explain(
     table2: &mut [u32],
 ) {
     let mut pointer = [0u8; POINTER];
-    let r = explain::explain(document, schema, table1, table2, &mut pointer);
-    let a = r.answer;
-    answer(rt, a);
-    if a.code < 20 {
+    let explained = explain::explain(document, schema, table1, table2, &mut pointer);
+    let answer = explained.answer;
+    line(rt, answer);
+    let Some(misfit) = Misfit::from_code(answer.code) else {
         return;
+    };
+    let length = explained.length.min(POINTER);
+    put(rt, &pointer[..length]);
+    put(rt, b"\n");
+    Excerpt {
+        text: document,
+        name: "document",
+        place: answer.place,
+        words: misfit.of_document(),
     }
-    let length = least(r.length, POINTER);
-    line(rt, &pointer[..length]);
-    explain_places(rt, a, document, schema);
-}
-
-// The lesser of two.
-fn least(a: usize, b: usize) -> usize
-    ensures { result ≤ b }
-{
-    if a < b { a } else { b }
-}
-
-// What the mismatch is, and by what it is one.
-fn explain_places(rt: &impl Print, a: Answer, document: &[u8], schema: &[u8]) {
-    excerpt(rt, document, a.place, b"document", misfit(a.code));
-    excerpt(rt, schema, a.other, b"schema", rule(a.code));
-}
-
-// What is said of the document under a code.
-fn misfit(code: u32) -> &'static [u8] {
-    match code {
-        20 => b"this value is of the wrong kind",
-        21 => b"this object lacks a required name",
-        _ => b"this string is no date",
+    .print(rt);
+    Excerpt {
+        text: schema,
+        name: "schema",
+        place: answer.other,
+        words: misfit.of_schema(),
     }
+    .print(rt);
 }
 
-// What is said of the schema.
-fn rule(code: u32) -> &'static [u8] {
-    match code {
-        21 => b"the required name",
-        _ => b"the definition",
+// Why a value does not fit.
+#[derive(Clone, Copy, Debug, PartialEq, Eq)]
+enum Misfit {
+    Kind,
+    Name,
+    Date,
+}
+
+impl Misfit {
+    // What Check tells by a code, 20 to 22.
+    fn from_code(code: u32) -> Option<Self> {
+        match code {
+            20 => Some(Misfit::Kind),
+            21 => Some(Misfit::Name),
+            22 => Some(Misfit::Date),
+            _ => None,
+        }
+    }
+
+    // What is said of the document.
+    fn of_document(self) -> &'static str {
+        match self {
+            Misfit::Kind => "this value is of the wrong kind",
+            Misfit::Name => "this object lacks a required name",
+            Misfit::Date => "this string is no date",
+        }
+    }
+
+    // What is said of the schema.
+    fn of_schema(self) -> &'static str {
+        match self {
+            Misfit::Name => "the required name",
+            Misfit::Kind | Misfit::Date => "the definition",
+        }
     }
 }

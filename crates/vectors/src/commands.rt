@@ -1,127 +1,71 @@
-// The commands, a function for each. It takes the fields behind the command's name, writes the
-// answer and says true, or writes nothing and says false where they are not of its form.
-use crate::fields::{decode, find, number};
-use crate::lines;
+// The commands, a function for each. It takes the fields behind the command's name and writes the
+// answer; where they are not of its form it writes nothing.
+use crate::fields::{decode, number, split_at_tab};
+use crate::lines::{BadLine, words};
+use console::{TABLE, print};
 use schema::PATH_WORDS;
+use syntax::Answer;
 
 // The most bytes of a text: some more than the 65,536 of a document (01, "Numbers").
 const TEXT: usize = 65600;
 
-// 01: "Its tables have 16,380 words each".
-const TABLE: usize = 16380;
-
 // The most words of a table that is written.
 const WORDS: usize = 80;
 
-pub fn run(rt: &impl Print, line: &[u8]) -> bool {
-    let tab = find(line, 0, b'\t');
-    if tab == line.len() {
-        return false;
-    }
-    let name = &line[0..tab];
-    let fields = &line[tab + 1..];
+pub fn run(rt: &impl Print, line: &[u8]) -> Result<(), BadLine> {
+    let (name, fields) = split_at_tab(line).ok_or(BadLine)?;
     match name {
-        b"read" => read(rt, fields),
+        b"read" => read(rt, fields, &mut [0u32; TABLE]),
         b"rows" => rows(rt, fields),
-        b"check" => check(rt, fields),
-        b"compare" => compare(rt, fields),
-        _ => false,
+        b"check" => judge(rt, fields, check),
+        b"compare" => judge(rt, fields, |new, old, table1, table2| {
+            comparison::compare(new, old, table1, table2)
+        }),
+        _ => Err(BadLine),
     }
 }
 
 // `read TEXT`.
-fn read(rt: &impl Print, field: &[u8]) -> bool {
-    let mut table = [0u32; TABLE];
-    read_into(rt, field, &mut table)
+fn read(rt: &impl Print, field: &[u8], table: &mut [u32]) -> Result<(), BadLine> {
+    let mut text = [0u8; TEXT];
+    let text = decode(field, &mut text).ok_or(BadLine)?;
+    print(rt, reader::read(text, table));
+    Ok(())
 }
 
 // `rows N TEXT`.
-fn rows(rt: &impl Print, fields: &[u8]) -> bool {
-    let tab = find(fields, 0, b'\t');
-    if tab == fields.len() {
-        return false;
-    }
-    let count = number(&fields[0..tab]);
-    if count > WORDS {
-        return false;
-    }
-    let mut words = [7u32; WORDS];
-    let table = &mut words[0..count];
-    if !read_into(rt, &fields[tab + 1..], table) {
-        return false;
-    }
-    lines::words(rt, table);
-    true
+fn rows(rt: &impl Print, fields: &[u8]) -> Result<(), BadLine> {
+    let (count, field) = split_at_tab(fields).ok_or(BadLine)?;
+    let mut table = [7u32; WORDS];
+    let count = number(count).ok_or(BadLine)?;
+    let table = table.get_mut(..count).ok_or(BadLine)?;
+    read(rt, field, table)?;
+    words(rt, table);
+    Ok(())
 }
 
-fn read_into(rt: &impl Print, field: &[u8], table: &mut [u32]) -> bool {
-    let mut text = [0u8; TEXT];
-    let decoded = decode(field, &mut text);
-    if !decoded.good {
-        return false;
-    }
-    let n = decoded.len;
-    lines::answer(rt, reader::read(&text[..n], table));
-    true
-}
-
-// `check DOCUMENT SCHEMA`.
-fn check(rt: &impl Print, fields: &[u8]) -> bool {
-    let tab = find(fields, 0, b'\t');
-    if tab == fields.len() {
-        return false;
-    }
-    let mut document = [0u8; TEXT];
-    let first = decode(&fields[0..tab], &mut document);
-    if !first.good {
-        return false;
-    }
-    let mut schema = [0u8; TEXT];
-    let second = decode(&fields[tab + 1..], &mut schema);
-    if !second.good {
-        return false;
-    }
-    let n = first.len;
-    let m = second.len;
+// `check DOCUMENT SCHEMA` or `compare NEW OLD`.
+fn judge<F: FnOnce(&[u8], &[u8], &mut [u32], &mut [u32]) -> Answer>(
+    rt: &impl Print,
+    fields: &[u8],
+    service: F,
+) -> Result<(), BadLine>
+    requires { F.IsAlwaysCallable service }
+{
+    let (first, second) = split_at_tab(fields).ok_or(BadLine)?;
+    let mut text1 = [0u8; TEXT];
+    let text1 = decode(first, &mut text1).ok_or(BadLine)?;
+    let mut text2 = [0u8; TEXT];
+    let text2 = decode(second, &mut text2).ok_or(BadLine)?;
     let mut table1 = [0u32; TABLE];
     let mut table2 = [0u32; TABLE];
+    print(rt, service(text1, text2, &mut table1, &mut table2));
+    Ok(())
+}
+
+// Check's answer alone.
+fn check(document: &[u8], schema: &[u8], table1: &mut [u32], table2: &mut [u32]) -> Answer {
     let mut dates = [0i64; 3];
     let mut path = [0u32; PATH_WORDS];
-    let r = schema::check(
-        &document[..n],
-        &schema[..m],
-        &mut table1,
-        &mut table2,
-        &mut dates,
-        &mut path,
-    );
-    lines::answer(rt, r.answer);
-    true
-}
-
-// `compare NEW OLD`.
-fn compare(rt: &impl Print, fields: &[u8]) -> bool {
-    let tab = find(fields, 0, b'\t');
-    if tab == fields.len() {
-        return false;
-    }
-    let mut new = [0u8; TEXT];
-    let first = decode(&fields[0..tab], &mut new);
-    if !first.good {
-        return false;
-    }
-    let mut old = [0u8; TEXT];
-    let second = decode(&fields[tab + 1..], &mut old);
-    if !second.good {
-        return false;
-    }
-    let n = first.len;
-    let m = second.len;
-    let mut table1 = [0u32; TABLE];
-    let mut table2 = [0u32; TABLE];
-    lines::answer(
-        rt,
-        comparison::compare(&new[..n], &old[..m], &mut table1, &mut table2),
-    );
-    true
+    schema::check(document, schema, table1, table2, &mut dates, &mut path).answer
 }

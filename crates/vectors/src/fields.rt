@@ -1,137 +1,77 @@
 // The fields of a line, and the texts that they spell.
-ghost use Rattle.std.specs.Prelude.{◌≤◌, ◌<◌, length};
-ghost use Rattle.vectors.specs.Counts.{IsPrefixLen};
+ghost use Rattle.std.specs.Prelude.{◌≡◌, ◌≤◌, ◌<◌, ◌∷◌, ◌++◌, length, Contains, IfSome, IfNone};
 
-// Where the byte first stands from index `from` on, or the length where it does not.
-pub fn find(s: &[u8], from: usize, byte: u8) -> usize
-    requires { from ≤ length s.now }
-    ensures { (from ≤ result) × (result ≤ length s.now) }
+// What stands before the first tab, and what behind it.
+pub fn split_at_tab(s: &[u8]) -> Option<(&[u8], &[u8])>
+    ensures none { IfNone result (¬ Contains s.now 9) }
+    ensures around { IfSome result (λ parts. s.now ≡ parts.0.now ++ 9 ∷ parts.1.now) }
+    ensures first { IfSome result (λ parts. ¬ Contains parts.0.now 9) }
 {
-    let mut i = from;
-    while i < s.len() {
-        if s[i] == byte {
-            return i;
-        }
-        i += 1;
-    }
-    i
+    let tab = s.iter().position(|byte| *byte == b'\t')?;
+    Some((&s[..tab], &s[tab + 1..]))
 }
-
-// What number says of a field that is none: more than any limit.
-const NO_NUMBER: usize = 100000;
 
 // A number of one to five decimal digits.
-pub fn number(s: &[u8]) -> usize {
-    if s.len() == 0 || s.len() > 5 {
-        return NO_NUMBER;
+pub fn number(s: &[u8]) -> Option<usize> {
+    if s.is_empty() || s.len() > 5 {
+        return None;
     }
-    let mut n = 0;
-    for i in 0..s.len() {
-        let d = hex(s[i]);
-        if d > 9 {
-            return NO_NUMBER;
-        }
-        n = n % 10000 * 10 + d as usize;
-    }
-    n
+    s.iter().try_fold(0usize, |n, byte| {
+        let digit = char::from(*byte).to_digit(10)?;
+        n.checked_mul(10)?.checked_add(digit as usize)
+    })
 }
 
-// The value of a hex digit in upper case, or 16.
-fn hex(b: u8) -> u8 {
+// The value of a hex digit in upper case.
+fn hex(b: u8) -> Option<u8>
+    ensures { IfSome result (λ d. d < 16) }
+{
     match b {
-        b'0'..=b'9' => b - b'0',
-        b'A'..=b'F' => b - b'A' + 10,
-        _ => 16,
+        b'0'..=b'9' => Some(b - b'0'),
+        b'A'..=b'F' => Some(b - b'A' + 10),
+        _ => None,
     }
 }
 
-// Whether a field spells a text that fits, and how many bytes the text has.
-#[derive(Clone, Copy)]
-pub struct Decoded {
-    pub good: bool,
-    pub len: usize,
-}
-
-// Puts the text that a field spells at the start of out.
-pub fn decode(field: &[u8], out: &mut [u8]) -> Decoded
-    ensures { IsPrefixLen result.len out.new }
+// Puts the text that a field spells at the start of out, if it fits.
+pub fn decode<'a>(field: &[u8], out: &'a mut [u8]) -> Option<&'a [u8]>
+    ensures { IfSome result (λ text. length text.now ≤ length out.old) }
 {
     let mut n = 0;
-    let mut i = 0;
-    while i < field.len() {
-        let p = first_piece(&field[i..]);
-        if !p.good {
-            return BAD_TEXT;
+    let mut rest = field;
+    while !rest.is_empty() {
+        let (times, byte, behind) = first_piece(rest)?;
+        if times > out.len() - n {
+            return None;
         }
-        if p.times > out.len() - n {
-            return BAD_TEXT;
-        }
-        let end = n + p.times;
-        fill(&mut out[n..end], p.byte);
+        let end = n + times;
+        out[n..end].fill(byte);
         n = end;
-        i += p.len;
+        rest = behind;
     }
-    Decoded { good: true, len: n }
+    Some(&out[..n])
 }
 
-const BAD_TEXT: Decoded = Decoded {
-    good: false,
-    len: 0,
-};
-
-fn fill(out: &mut [u8], byte: u8) {
-    for i in 0..out.len() {
-        out[i] = byte;
-    }
-}
-
-// A byte, how often it stands in the text, and how many bytes of the field spell that.
-#[derive(Clone, Copy)]
-struct Piece {
-    good: bool,
-    byte: u8,
-    times: usize,
-    len: usize,
-}
-
-// What is spelled at the start of s.
-fn first_piece(s: &[u8]) -> Piece
-    requires { 0 < length s.now }
-    ensures { (0 < result.len) × (result.len ≤ length s.now) }
+// How often a byte stands in the text by what is spelled at the start of s, the byte, and what stands behind.
+fn first_piece(s: &[u8]) -> Option<(usize, u8, &[u8])>
+    ensures { IfSome result (λ piece. length piece.2.now < length s.now) }
 {
-    if s.len() < 8 || s[0] != b'%' || s[1] != b'r' {
-        return first_byte(s);
-    }
-    let times = number(&s[2..7]);
-    let unit = first_byte(&s[7..]);
-    Piece {
-        good: unit.good,
-        byte: unit.byte,
-        times,
-        len: unit.len + 7,
-    }
+    let Some(repeated) = s.strip_prefix(b"%r") else {
+        let (byte, rest) = first_byte(s)?;
+        return Some((1, byte, rest));
+    };
+    let (times, unit) = repeated.split_at_checked(5)?;
+    let (byte, rest) = first_byte(unit)?;
+    Some((number(times)?, byte, rest))
 }
 
-// A byte as it is, or `%XX`. A tab stands between fields only.
-fn first_byte(s: &[u8]) -> Piece
-    requires { 0 < length s.now }
-    ensures { (0 < result.len) × (result.len ≤ length s.now) }
+// A byte as it is, or `%XX`, and what stands behind. A tab stands between fields only.
+fn first_byte(s: &[u8]) -> Option<(u8, &[u8])>
+    ensures { IfSome result (λ spelled. length spelled.1.now < length s.now) }
 {
-    let first = s[0];
-    if s.len() < 3 || first != b'%' {
-        return Piece {
-            good: first != b'%' && first != b'\t',
-            byte: first,
-            times: 1,
-            len: 1,
-        };
-    }
-    let high = hex(s[1]);
-    let low = hex(s[2]);
-    Piece {
-        good: high < 16 && low < 16,
-        byte: high % 16 * 16 + low % 16,
-        times: 1,
-        len: 3,
+    match s {
+        [b'%', high, low, rest @ ..] => Some((hex(*high)? * 16 + hex(*low)?, rest)),
+        [b'%' | b'\t', ..] | [] => None,
+        [byte, rest @ ..] => Some((*byte, rest)),
     }
 }

@@ -1,32 +1,24 @@
-// The parts of an answer.
-use syntax::Answer;
+// What a line is answered by.
+use console::print;
+use std::error::Error;
+use std::fmt;
 
-// 01: "the four numbers in decimal on one line, a space between".
-pub fn answer(rt: &impl Print, a: Answer) {
-    put_decimal(rt, a.code);
-    word(rt, a.text);
-    word(rt, a.place);
-    word(rt, a.other);
-}
+// A line that is not of a command's form.
+#[derive(Clone, Copy, Debug, PartialEq, Eq)]
+pub struct BadLine;
 
-// The words of a table, behind its answer.
-pub fn words(rt: &impl Print, table: &[u32]) {
-    put(rt, b" |");
-    for n in table {
-        word(rt, *n);
+impl fmt::Display for BadLine {
+    fn fmt<W: fmt::Write>(&self, f: &mut fmt::Formatter<W>) -> fmt::Result {
+        write!(f, "bad line")
     }
 }
 
-// Prints bytes. Where the output takes none, it differs from the file stdout, which tells it.
-pub fn put(rt: &impl Print, bytes: &[u8]) {
-    let _ = rt.write_all(bytes);
-}
+impl Error for BadLine {}
 
-fn put_decimal(rt: &impl Print, n: u32) {
-    let _ = rt.print(n);
-}
-
-fn word(rt: &impl Print, n: u32) {
-    put(rt, b" ");
-    put_decimal(rt, n);
+// The words of a table, behind its answer.
+pub fn words(rt: &impl Print, table: &[u32]) {
+    print(rt, " |");
+    for word in table {
+        print(rt, format_args!(" {word}"));
+    }
 }

@@ -1,19 +1,21 @@
 // The command over one text.
-use crate::LIMIT;
-use console::{answer, no_file, save};
+use console::{LIMIT, NoFile, line, save};
 use std::random::RandomSource;
 use std::rt::{Env, Files};
 
 // `compact FILE OUT`. What is written is never longer than the text, so that the buffer has room.
-pub fn compact(rt: &(impl Env + Files + RandomSource + Print), text: &[u8], table: &mut [u32]) {
+#[tactic(auto, using(crate::proofs::Laws::compact_most, crate::proofs::Laws::compact_taken))]
+pub fn compact(
+    rt: &(impl Env + Files + RandomSource + Print),
+    text: &[u8],
+    table: &mut [u32],
+) -> Result<(), NoFile> {
     let mut buffer = [0u8; LIMIT];
-    let a = writer::compact(text, table, &mut buffer);
-    if a.code == 0 {
-        let length = a.other as usize;
-        if !save(rt, 3, &buffer[..length]) {
-            no_file(rt);
-            return;
-        }
+    let answer = writer::compact(text, table, &mut buffer);
+    if answer.code == 0 {
+        let written = &buffer[..answer.other as usize];
+        save(rt, 3, written)?;
     }
-    answer(rt, a);
+    line(rt, answer);
+    Ok(())
 }

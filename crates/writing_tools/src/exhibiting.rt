@@ -1,6 +1,5 @@
 // The command over two schemas.
-use crate::LIMIT;
-use console::{answer, no_file, save};
+use console::{LIMIT, NoFile, line, save};
 use schema::PATH_WORDS;
 use std::random::RandomSource;
 use std::rt::{Env, Files};
@@ -14,28 +13,21 @@ pub fn counterexample(
     old: &[u8],
     table1: &mut [u32],
     table2: &mut [u32],
-) {
+) -> Result<(), NoFile> {
     let mut buffer = [0u8; LIMIT];
-    let a = counterexample::counterexample(new, old, table1, table2, &mut buffer);
-    if a.code == 30 {
-        let length = a.other as usize;
-        if !save(rt, 4, &buffer[..length]) {
-            no_file(rt);
-            return;
-        }
-        answer(rt, a);
-        let mut dates = [0i64; 3];
-        let mut path = [0u32; PATH_WORDS];
-        let r = schema::check(
-            &buffer[..length],
-            old,
-            table1,
-            table2,
-            &mut dates,
-            &mut path,
-        );
-        answer(rt, r.answer);
-        return;
+    let answer = counterexample::counterexample(new, old, table1, table2, &mut buffer);
+    if answer.code != 30 {
+        line(rt, answer);
+        return Ok(());
     }
-    answer(rt, a);
+    let document = &buffer[..answer.other as usize];
+    save(rt, 4, document)?;
+    line(rt, answer);
+    let mut dates = [0i64; 3];
+    let mut path = [0u32; PATH_WORDS];
+    line(
+        rt,
+        schema::check(document, old, table1, table2, &mut dates, &mut path).answer,
+    );
+    Ok(())
 }
