@@ -1,5 +1,6 @@
 -- When a schema is accepted, and the answer where it is not (01, "Three services").
 use Rattle.std.specs.Prelude.{ℕ, ◌≤◌, ◌≡◌, cond, List, leb}
+use Rattle.chars.specs.Refusals.{number}
 use Rattle.tokens.specs.Parse.{Parse, refused, parsed}
 use Rattle.syntax.specs.Tree.{Node}
 use Rattle.syntax.specs.Rows.{size}
@@ -22,7 +23,7 @@ defined_as which (fine d) = accepted d
 
 -- "then room (8), only for well-formed text; for a schema then 10 to 12"
 abbrev pub accepted_as : ℕ → ℕ → List ℕ → Parse Node → Accepted
-accepted_as which w s (refused c p) = not_accepted (answer c which p 0)
+accepted_as which w s (refused c p) = not_accepted (answer (number c) which p 0)
 accepted_as which w s (parsed n e) = cond (leb (size n) (rows_in w)) (defined_as which (definition_at s n)) (not_accepted (answer 8 which 0 (size n)))
 
 -- text number `which`, s, with a table of w words

@@ -8,7 +8,7 @@ ghost use Rattle.rows.specs.Matching.{most_names, bucket_count, Buckets, HasInde
 
 use crate::finding::between;
 use crate::records::row_at;
-use chars::{Hashed, hashed_end, same_name};
+use chars::{hashed_end, same_name};
 
 // How many names an index has room for, in how many buckets.
 pub const MOST_NAMES: usize = 2048;
@@ -37,8 +37,8 @@ fn bucket(text: &[u8], first: usize) -> usize
     ensures { Buckets text.now first result }
 {
     match hashed_end(text, first + 1) {
-        Hashed::Name { end: _, hash } => hash as usize / 64,
-        Hashed::Broken { code: _, place: _ } => 0,
+        Ok(name) => name.hash as usize / 64,
+        Err(_) => 0,
     }
 }
 

@@ -3,6 +3,7 @@ use Rattle.std.specs.Prelude.{ℕ, ◌≡◌, cond, List, [], leb, eqb, ℤ}
 use Rattle.std.proofs.Math.Option.{some}
 use Rattle.model.specs.Definition.{Def, definition_of}
 use Rattle.model.specs.Meeting.{Meets}
+use Rattle.chars.specs.Refusals.{number}
 use Rattle.tokens.specs.Parse.{Parse, refused, parsed}
 use Rattle.syntax.specs.Tree.{Node}
 use Rattle.syntax.specs.Rows.{size}
@@ -24,7 +25,7 @@ abbrev pub mismatch_answer : Mismatch → Answer
 mismatch_answer m = cond (eqb m.code 0) (answer 0 0 0 0) (answer m.code 1 m.place m.other)
 
 abbrev pub judged_as : Located → ℕ → List ℕ → Parse Node → Answer
-judged_as d w s (refused c p) = answer c 1 p 0
+judged_as d w s (refused c p) = answer (number c) 1 p 0
 judged_as d w s (parsed n e) = cond (leb (size n) (rows_in w)) (mismatch_answer (mismatch_at s d n)) (answer 8 1 0 (size n))
 
 abbrev pub checked_as : Accepted → ℕ → List ℕ → Answer

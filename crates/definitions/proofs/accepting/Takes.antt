@@ -6,6 +6,7 @@ use native.Mathlib.Omega.{arith}
 use lib.Dec.{leb}
 use borrow.Author.Tests.{leb-true, leb-false}
 use Rattle.model.proofs.Basics.{never, both}
+use Rattle.chars.specs.declared.refusals.Code.{Code}
 use Rattle.tokens.specs.Parse.{Parse, refused, parsed}
 use Rattle.syntax.specs.Tree.{Node}
 use Rattle.syntax.specs.Rows.{size}
@@ -17,7 +18,7 @@ use Rattle.definitions.proofs.definitions.Faults.{fault_code}
 
 -- the ways of what was read
 pub by_parse : {A : Type 0} (P : Parse A → Type 0) (o : Parse A)
-    → ((c p : ℕ) → o ≡ refused c p → P (refused c p)) → ((n : A) (e : ℕ) → o ≡ parsed n e → P (parsed n e)) → P o
+    → ((c : Code) (p : ℕ) → o ≡ refused c p → P (refused c p)) → ((n : A) (e : ℕ) → o ≡ parsed n e → P (parsed n e)) → P o
 by_parse P (refused c p) f g = f c p refl
 by_parse P (parsed n e) f g = g n e refl
 
@@ -28,7 +29,7 @@ by_defined P (fine a) f g = g a refl
 
 -- what is read with room is one tree
 module _ {o : Parse Node} {w : ℕ} where
-  pub refused_none : {n : Node} {c p : ℕ} → o ≡ refused c p → HasRoom o w n → ⊥
+  pub refused_none : {n : Node} {c : Code} {p : ℕ} → o ≡ refused c p → HasRoom o w n → ⊥
   refused_none q h = let x = h.reads in never (cc)
 
   pub one_tree : {n m : Node} {e : ℕ} → o ≡ parsed n e → HasRoom o w m → n ≡ m
