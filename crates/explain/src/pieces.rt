@@ -5,7 +5,7 @@ ghost use Rattle.grammar.specs.Utf8.{utf8};
 ghost use Rattle.explain.specs.Pointers.{token_char, token_chars, decimal};
 ghost use Rattle.explain.specs.Writing.{Puts, near, far};
 
-use chars::{Step, char_at};
+use chars::character_at;
 use writer::write_utf8;
 
 // A byte.
@@ -63,20 +63,11 @@ pub fn put_name(out: &mut [u8], at: usize, name: &[u8]) -> usize
 {
     let mut next = at;
     let mut i = 0;
-    loop {
-        match char_at(name, i) {
-            Step::Char {
-                value,
-                next: behind,
-            } => {
-                next = put_char(out, next, value);
-                i = behind;
-            }
-            _ => {
-                return next;
-            }
-        }
+    while let Some(character) = character_at(name, i) {
+        next = put_char(out, next, character.value);
+        i = character.next;
     }
+    next
 }
 
 // An index in decimal.

@@ -8,7 +8,7 @@ ghost use Rattle.samples.specs.Writing.{CountsFields, CountsNames, LettersReady,
 
 use crate::pieces::{write_apart, write_bytes};
 use crate::values::write_fields;
-use chars::{Step, char_at, peek};
+use chars::character_at;
 use definitions::{Generic, generic_at, type_at};
 use rows::{between, find, row_at};
 
@@ -17,20 +17,14 @@ fn begins(letters: &[u8], name: &[u8]) -> bool
     ensures { result ≡ beginsWith letters.now (characters name.now) }
 {
     let mut i = 0;
-    let mut k = 0;
-    while k < letters.len() {
-        match char_at(name, i) {
-            Step::Char { value, next } => {
-                if value != peek(letters, k) as u32 {
-                    return false;
-                }
-                i = next;
-                k += 1;
-            }
-            _ => {
-                return false;
-            }
+    for letter in letters {
+        let Some(character) = character_at(name, i) else {
+            return false;
+        };
+        if character.value != u32::from(*letter) {
+            return false;
         }
+        i = character.next;
     }
     true
 }

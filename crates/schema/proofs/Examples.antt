@@ -15,7 +15,7 @@ use Rattle.chars.specs.Bytes.{code_of, digit, escape_of, lowest, highest, six_bi
 use Rattle.tokens.specs.Parse.{Parse, refused, parsed, unexpected}
 use Rattle.chars.specs.Runs.{run_from, run}
 use Rattle.tokens.specs.Space.{is_space}
-use Rattle.chars.specs.Characters.{stop_at, wrong_at, hex_pair, partner_at, rest_at, unicode_at, escape_at, two_at, three_at, four_at, char_from, char_at}
+use Rattle.chars.specs.Characters.{refusal_at, hex_pair, partner_at, rest_at, unicode_at, escape_at, two_at, three_at, four_at, char_from, char_at}
 use Rattle.chars.specs.Strings.{string_from, string_at, chars_from, chars_at}
 use Rattle.tokens.specs.Numbers.{whole_end, sign_end, power_at, exponent_at, fraction_at, unsigned_at, number_at}
 use Rattle.tokens.specs.Scalars.{first_of, word_at}
@@ -48,7 +48,7 @@ defined_by s (parsed n e) = definition_at s n
 
 -- the definition of a schema; who unfolds this unfolds all that reading computes with
 defines : List ℕ → Defined Located
-unfolding code_of digit escape_of lowest highest six_bits unexpected run_from run is_space stop_at wrong_at hex_pair partner_at rest_at unicode_at
+unfolding code_of digit escape_of lowest highest six_bits unexpected run_from run is_space refusal_at hex_pair partner_at rest_at unicode_at
     escape_at two_at three_at four_at char_from char_at string_from string_at chars_from chars_at whole_end sign_end power_at exponent_at fraction_at
     unsigned_at number_at first_of word_at after_item items_from items_at list_at repeated name_at after_name value_at alone read_text
 defines s = defined_by s (read_schema s)

@@ -1,19 +1,19 @@
 -- The characters of a name as a reference token, one behind the other, and how many bytes they take.
 use Prim.Native.Nat.{ℕ, zero, suc, ◌*◌, ◌-◌, ◌≤◌}
 use mathlib.Core.Path.{◌≡◌, refl, sym, ap, ◌∙◌}
-use mathlib.Core.Logic.{◌⊎◌}
 use mathlib.Core.List.{List, [], ◌∷◌, ◌++◌, append_assoc, append-nil}
 use native.Mathlib.Omega.{arith}
 use lib.ListN.{length, length-append}
 use lib.Dec.{ltb, eqb}
-use denote.Enum.Declared.{tag_of}
 use Rattle.model.proofs.Basics.{both}
 use Rattle.chars.specs.declared.characters.Step.{Step}
-use Rattle.chars.specs.contracts.characters.Step.{the_type}
-use Rattle.chars.specs.declared.characters.Step.TheVariants.{Char, Quote, Refused}
-use Rattle.chars.specs.Characters.{char_at}
+use Rattle.chars.specs.declared.characters.Step.TheVariants.{Char, Quote}
+use Rattle.std.specs.Prelude.{Ok, Err, Some, None}
+use Rattle.chars.specs.Refusals.{Reading}
+use Rattle.chars.specs.declared.characters.Character.{Character}
+use Rattle.chars.specs.Characters.{char_at, character_at}
 use Rattle.chars.specs.Strings.{values_on, chars_from, chars_at, characters}
-use Rattle.chars.proofs.Facts.{char_next, chars_char, chars_none}
+use Rattle.chars.proofs.Facts.{char_next, char_read, chars_char, chars_none}
 use Rattle.grammar.specs.Utf8.{utf8}
 use Rattle.explain.specs.Pointers.{token_char, token_chars}
 use Rattle.explain.specs.Writing.{Puts}
@@ -38,10 +38,10 @@ chars_short [] = omega arith
 chars_short (c ∷ cs) = omega (arith, char_short c, chars_short cs, length-append (token_char c) (token_chars cs))
 
 -- a name has no more characters than bytes
-values_few : (k : ℕ) (more : ℕ → List ℕ) → ((j : ℕ) → length (more j) ≤ k) → (st : Step) → length (values_on more st) ≤ suc k
+values_few : (k : ℕ) (more : ℕ → List ℕ) → ((j : ℕ) → length (more j) ≤ k) → (st : Reading Step) → length (values_on more st) ≤ suc k
 values_few k more h (Ok (Char v j)) = omega (arith, h j)
 values_few k more h (Ok Quote) = omega arith
-values_few k more h (Refused c p) = omega arith
+values_few k more h (Err r) = omega arith
 
 from_few : (k : ℕ) (s : List ℕ) (i : ℕ) → length (chars_from k s i) ≤ k
 unfolding chars_from
@@ -64,10 +64,13 @@ pub record Naming (name : List ℕ) (at : ℕ) (before : List ℕ) (next i : ℕ
 pub naming_start : (name : List ℕ) (at : ℕ) (out : List ℕ) → Naming name at out at 0 out
 naming_start name at out = record { done = []; puts = puts_none at out; few = omega arith; inside = omega arith; rest = refl }
 
-module _ {name : List ℕ} {at : ℕ} {before : List ℕ} {next i : ℕ} {out : List ℕ} (g : Naming name at before next i out) {x : Step} (e : x ≡ char_at name i) where
-  pub naming_next : {v j : ℕ} → x ≡ Ok (Char v j) → {k : ℕ} {out₂ : List ℕ} → Puts (token_char v) next k out out₂ → Naming name at before k j out₂
-  naming_next {v} {j} q p =
-      let b = char_next name i v j (sym e ∙ q) in
+module _ {name : List ℕ} {at : ℕ} {before : List ℕ} {next i : ℕ} {out : List ℕ} (g : Naming name at before next i out) where
+  pub naming_next : (x : Character) → character_at name i ≡ Some x → {k : ℕ} {out₂ : List ℕ} → Puts (token_char x.value) next k out out₂
+      → Naming name at before k x.next out₂
+  naming_next x e p =
+      let v = x.value in
+      let q = char_read name i v x.next e in
+      let b = char_next name i v x.next q in
       record {
         done = g.done ++ token_char v;
         puts = puts_append g.puts p;
@@ -75,10 +78,10 @@ module _ {name : List ℕ} {at : ℕ} {before : List ℕ} {next i : ℕ} {out : 
         inside = b.1;
         rest =
             g.rest
-            ∙ ap (λ (cs : List ℕ). g.done ++ token_chars cs) (chars_char name i v j (sym e ∙ q))
-            ∙ sym (append_assoc g.done (token_char v) (token_chars (chars_at name j)));
+            ∙ ap (λ (cs : List ℕ). g.done ++ token_chars cs) (chars_char name i v x.next q)
+            ∙ sym (append_assoc g.done (token_char v) (token_chars (chars_at name x.next)));
       }
 
-  pub naming_end : (tag_of the_type x ≡ 1) ⊎ (tag_of the_type x ≡ 2) → Puts (token_chars (characters name)) at next before out
-  naming_end h =
-      puts_as (g.rest ∙ ap (λ (cs : List ℕ). g.done ++ token_chars cs) (chars_none name i x e h) ∙ append-nil g.done) g.puts
+  pub naming_end : character_at name i ≡ None → Puts (token_chars (characters name)) at next before out
+  naming_end e =
+      puts_as (g.rest ∙ ap (λ (cs : List ℕ). g.done ++ token_chars cs) (chars_none name i e) ∙ append-nil g.done) g.puts

@@ -13,8 +13,9 @@ use lib.Seq.{get_or-set_same, get_or-set_other}
 use borrow.Author.Tests.{eq-eqb, ne_eqb}
 use Rattle.tokens.specs.Spelling.{IsQuoted}
 use Rattle.model.proofs.Basics.{never}
-use Rattle.chars.specs.Hashing.{hashed_at}
-use Rattle.chars.specs.declared.hashing.Hashed.TheVariants.{Name, Broken}
+use Rattle.chars.specs.Hashing.{hashed, hashed_at}
+use Rattle.std.specs.Prelude.{Ok, Err}
+use Rattle.chars.specs.declared.refusals.Refusal.{Refusal}
 use Rattle.chars.proofs.Facts.{hash_small, name_hashed, name_broken, last_here, last_before, last_most, last_nothing, last_same}
 use Rattle.syntax.specs.Tree.{Members}
 use Rattle.syntax.specs.Rows.{count_members}
@@ -33,7 +34,7 @@ bucket_small n = omega (arith, hash_small n)
 
 -- the bucket of the name whose opening quote is at f; what is broken there is no name
 module _ {s : List ℕ} {f : ℕ} where
-  pub name-bucket : {e h : ℕ} → hashed_at s (f + 1) ≡ Name e h → Buckets s f (h / 64)
+  pub name-bucket : {e h : ℕ} → hashed_at s (f + 1) ≡ Ok (hashed e h) → Buckets s f (h / 64)
   name-bucket {e} {h} q =
       let w = name_hashed s (f + 1) e h q in
       record {
@@ -41,8 +42,8 @@ module _ {s : List ℕ} {f : ℕ} where
         tells = λ e₂ r. let z : e ≡ e₂ = cc (w.0, r.ends) in rw z at (ap (λ (x : ℕ). x / 64) w.1);
       }
 
-  pub broken_bucket : {c p : ℕ} → hashed_at s (f + 1) ≡ Broken c p → Buckets s f 0
-  broken_bucket {c} {p} q = record { small = omega arith; tells = λ e r. never (cc (name_broken s (f + 1) c p q, r.ends)) }
+  pub broken_bucket : {bad : Refusal} → hashed_at s (f + 1) ≡ Err bad → Buckets s f 0
+  broken_bucket {bad} q = record { small = omega arith; tells = λ e r. never (cc (name_broken s (f + 1) bad q, r.ends)) }
 
 -- other names behind the first n
 last_kept : (f g : ℕ → ℕ) (b n : ℕ) → ((j : ℕ) → j < n → g j ≡ f j) → last_in g b n ≡ last_in f b n

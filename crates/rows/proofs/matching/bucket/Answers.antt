@@ -3,8 +3,8 @@ use mathlib.Core.Path.{sym, ◌∙◌}
 use Rattle.rows.proofs.matching.Index.{name-bucket, broken_bucket}
 use Rattle.rows.proofs.matching.bucket.Goals as goal
 
-pub returns-in-Name : goal.returns-in-Name
-returns-in-Name c = name-bucket (sym c.hashed_end.ensures ∙ c.in-Name.is)
+pub returns-in-Ok : goal.returns-in-Ok
+returns-in-Ok c = name-bucket (sym c.hashed_end.ensures ∙ c.in-Ok.is)
 
-pub returns-in-Broken : goal.returns-in-Broken
-returns-in-Broken c = broken_bucket (sym c.hashed_end.ensures ∙ c.in-Broken.is)
+pub returns-in-Err : goal.returns-in-Err
+returns-in-Err c = broken_bucket (sym c.hashed_end.ensures ∙ c.in-Err.is)
