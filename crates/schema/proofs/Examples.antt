@@ -12,6 +12,7 @@ use Rattle.model.specs.Calendar.{first_months, first_years, day_count, day_numbe
 use Rattle.model.specs.Date.{utc_day, moment}
 use Rattle.model.specs.Definition.{JSON, Schema, Float, Integer, String, Boolean, DateTime}
 use Rattle.chars.specs.Bytes.{code_of, digit, escape_of, lowest, highest, six_bits}
+use Rattle.chars.specs.Refusals.{number}
 use Rattle.tokens.specs.Parse.{Parse, refused, parsed, unexpected}
 use Rattle.chars.specs.Runs.{run_from, run}
 use Rattle.tokens.specs.Space.{is_space}
@@ -43,7 +44,7 @@ json s = quotes (text s)
 
 -- the definition of a text that is read, or its fault
 abbrev defined_by : List ℕ → Parse Node → Defined Located
-defined_by s (refused c p) = faulty c p
+defined_by s (refused c p) = faulty (number c) p
 defined_by s (parsed n e) = definition_at s n
 
 -- the definition of a schema; who unfolds this unfolds all that reading computes with

@@ -5,7 +5,9 @@ use mathlib.Core.List.{List}
 use native.Mathlib.Omega.{arith}
 use lib.ListN.{length}
 use Rattle.tokens.specs.Spelling.{IsQuoted}
-use Rattle.tokens.specs.Tokens.{Kind, Quoted, kind_number}
+use Rattle.tokens.specs.declared.tokens.Kind.{Kind}
+use Rattle.tokens.specs.declared.tokens.Kind.TheVariants.{Quoted}
+use Rattle.tokens.specs.Tokens.{kind_number}
 use Rattle.syntax.specs.Tree.{Node, scalar, array, object, Nodes, none, Members, no_member, place_of}
 use Rattle.syntax.specs.Rows.{row_words, count, count_members, size}
 use Rattle.syntax.specs.Holding.{word, Row, Holds, Placed}
