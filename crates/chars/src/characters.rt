@@ -46,14 +46,12 @@ fn hex_pair(text: &[u8], at: usize) -> Reading<u16>
     requires { at ≤ length text.now + 12 }
     ensures { result ≡ hex_pair text.now at }
 {
-    let a = digit_at(text, at);
-    if a > 15 {
+    let Some(a) = digit_at(text, at) else {
         return Err(wrong(text, at));
-    }
-    let b = digit_at(text, at + 1);
-    if b > 15 {
+    };
+    let Some(b) = digit_at(text, at + 1) else {
         return Err(wrong(text, at + 1));
-    }
+    };
     Ok((16 * a + b) as u16)
 }
 
@@ -68,13 +66,12 @@ fn partner(text: &[u8], at: usize, high: u32) -> Reading<Step>
     if peek(text, at + 1) != b'u' {
         return Err(refusal_at(text, at + 1, Code::LoneSurrogate));
     }
-    if digit_at(text, at + 2) != 13 {
+    if !matches!(peek(text, at + 2), b'D' | b'd') {
         return Err(refusal_at(text, at + 2, Code::LoneSurrogate));
     }
-    let d = digit_at(text, at + 3);
-    if d < 12 || d > 15 {
+    let Some(d @ 12..=15) = digit_at(text, at + 3) else {
         return Err(refusal_at(text, at + 3, Code::LoneSurrogate));
-    }
+    };
     let l = hex_pair(text, at + 4)?;
     let low = 256 * (0xd0 + wide(d)) + l as u32;
     Ok(Step::Char {
@@ -123,10 +120,9 @@ fn escape(text: &[u8], at: usize) -> Reading<Step>
     if b == b'u' {
         return unicode(text, at);
     }
-    let value = escape_of(b);
-    if value == 0 {
+    let Some(value) = escape_of(b) else {
         return Err(wrong(text, at + 1));
-    }
+    };
     Ok(Step::Char {
         value: wide(value),
         next: at + 2,
@@ -138,10 +134,9 @@ fn two(text: &[u8], at: usize, b: u8) -> Reading<Step>
     requires { (at ≤ length text.now) × (0xC2 ≤ b) × (b < 0xE0) }
     ensures { result ≡ two_at text.now at b }
 {
-    let c = six_at(text, at + 1, 0x80, 0xbf);
-    if c > 63 {
+    let Some(c) = six_at(text, at + 1, 0x80, 0xbf) else {
         return Err(refusal_at(text, at + 1, Code::NotUtf8));
-    }
+    };
     Ok(Step::Char {
         value: 64 * (wide(b) - 0xc0) + c,
         next: at + 2,
@@ -152,14 +147,12 @@ fn three(text: &[u8], at: usize, b: u8) -> Reading<Step>
     requires { (at ≤ length text.now) × (0xE0 ≤ b) × (b < 0xF0) }
     ensures { result ≡ three_at text.now at b }
 {
-    let c = six_at(text, at + 1, lowest(b), highest(b));
-    if c > 63 {
+    let Some(c) = six_at(text, at + 1, lowest(b), highest(b)) else {
         return Err(refusal_at(text, at + 1, Code::NotUtf8));
-    }
-    let d = six_at(text, at + 2, 0x80, 0xbf);
-    if d > 63 {
+    };
+    let Some(d) = six_at(text, at + 2, 0x80, 0xbf) else {
         return Err(refusal_at(text, at + 2, Code::NotUtf8));
-    }
+    };
     Ok(Step::Char {
         value: 4096 * (wide(b) - 0xe0) + 64 * c + d,
         next: at + 3,
@@ -170,18 +163,15 @@ fn four(text: &[u8], at: usize, b: u8) -> Reading<Step>
     requires { (at ≤ length text.now) × (0xF0 ≤ b) × (b < 0xF5) }
     ensures { result ≡ four_at text.now at b }
 {
-    let c = six_at(text, at + 1, lowest(b), highest(b));
-    if c > 63 {
+    let Some(c) = six_at(text, at + 1, lowest(b), highest(b)) else {
         return Err(refusal_at(text, at + 1, Code::NotUtf8));
-    }
-    let d = six_at(text, at + 2, 0x80, 0xbf);
-    if d > 63 {
+    };
+    let Some(d) = six_at(text, at + 2, 0x80, 0xbf) else {
         return Err(refusal_at(text, at + 2, Code::NotUtf8));
-    }
-    let e = six_at(text, at + 3, 0x80, 0xbf);
-    if e > 63 {
+    };
+    let Some(e) = six_at(text, at + 3, 0x80, 0xbf) else {
         return Err(refusal_at(text, at + 3, Code::NotUtf8));
-    }
+    };
     Ok(Step::Char {
         value: 262144 * (wide(b) - 0xf0) + 4096 * c + 64 * d + e,
         next: at + 4,

@@ -1,69 +1,49 @@
 -- The answer of each way through an escape: what was read and the tests that it passed are the hypotheses.
-use mathlib.Core.Path.{◌≡◌, sym, ap, ◌∙◌}
+use mathlib.Core.Path.{◌≡◌, refl}
 use mathlib.Core.List.{List}
+use mathlib.Core.Bool.{true, false, ◌||◌}
 use Prim.Native.Nat.{ℕ, ◌+◌, ◌*◌, ◌≤◌, ◌<◌}
-use borrow.Author.Tests.{le-leb, lt-leb, eq-eqb, ne_eqb}
+use lib.Dec.{eqb}
+use borrow.Author.Tests.{eq-eqb, ne_eqb, eqb-false}
+use Rattle.model.proofs.Basics.{by_test}
 use Rattle.chars.specs.declared.characters.Step.{Step}
 use Rattle.chars.specs.declared.characters.Step.TheVariants.{Char}
-use Rattle.chars.specs.Bytes.{byte_at, code_of, digit, escape_of}
-use Rattle.chars.specs.Characters.{refusal_at, wrong, hex_pair, pair_value, partner_at, rest_at, unicode_at, escape_at}
+use Rattle.chars.specs.Bytes.{byte_at, digit}
+use Rattle.chars.specs.Characters.{stop_at, hex_pair, with_pair, pair_value, partner_at, rest_at, unicode_at}
 use Rattle.chars.proofs.bytes.Laws.{inside, beside}
-use Rattle.std.specs.Prelude.{Ok, Err}
+use Rattle.chars.proofs.characters.Laws.{by_some}
+use Rattle.std.specs.Prelude.{Ok, Err, Some}
 use Rattle.chars.specs.Refusals.{refusal, Reading}
 use Rattle.chars.specs.declared.refusals.Refusal.{Refusal}
 use Rattle.chars.specs.declared.refusals.Code.TheVariants.{LoneSurrogate}
 
--- two hex digits, a and b
-module _ (s : List ℕ) (i : ℕ) {a : ℕ} (first : a ≡ digit (byte_at s i)) where
-  pub first_bad : {r : Refusal} → 15 < a → r ≡ wrong s i → Err r ≡ hex_pair s i
-  unfolding hex_pair
-  first_bad h e = rw (← first, lt-leb a 15 h) (ap Err e)
+-- D or d
+module _ (b : ℕ) where
+  pub is_d : ((b ≡ 0x44 → ⊥) → b ≡ 0x64) → eqb b 0x44 || eqb b 0x64 ≡ true
+  is_d h = by_test (eqb b 0x44) (λ t. rw t) (λ t. rw (t, eq-eqb b 0x64 (h (eqb-false b 0x44 t))))
 
-  module _ (fits : a ≤ 15) {b : ℕ} (second : b ≡ digit (byte_at s (i + 1))) where
-    pub second_bad : {r : Refusal} → 15 < b → r ≡ wrong s (i + 1) → Err r ≡ hex_pair s i
-    unfolding hex_pair
-    second_bad h e = rw (← first, le-leb a 15 fits, ← second, lt-leb b 15 h) (ap Err e)
+  pub no_d : (b ≡ 0x44 → ⊥) → (b ≡ 0x64 → ⊥) → eqb b 0x44 || eqb b 0x64 ≡ false
+  no_d n m = rw (ne_eqb b 0x44 n, ne_eqb b 0x64 m)
 
-    pub pair_read : b ≤ 15 → Ok (16 * a + b) ≡ hex_pair s i
-    unfolding hex_pair
-    pair_read h = rw (← first, le-leb a 15 fits, ← second, le-leb b 15 h)
-
--- behind a high surrogate: `\`, `u`, D or d, and a digit C to F
-module _ (s : List ℕ) (i high : ℕ) {r : Refusal} where
-  pub no_backslash : {b : ℕ} → b ≡ byte_at s i → (b ≡ 0x5C → ⊥) → r ≡ refusal_at s i LoneSurrogate → Err r ≡ partner_at s i high
-  unfolding partner_at
-  no_backslash {b} q n e = rw (← q, ne_eqb b 0x5C n) (ap Err e)
-
-  module _ (backslash : byte_at s i ≡ 0x5C) where
-    pub no_u : {b : ℕ} → b ≡ byte_at s (i + 1) → (b ≡ 0x75 → ⊥) → r ≡ refusal_at s (i + 1) LoneSurrogate → Err r ≡ partner_at s i high
-    unfolding partner_at
-    no_u {b} q n e = rw (backslash, ← q, ne_eqb b 0x75 n) (ap Err e)
-
-    module _ (letter : byte_at s (i + 1) ≡ 0x75) where
-      pub no_d : {b : ℕ} → b ≡ digit (byte_at s (i + 2)) → (b ≡ 13 → ⊥) → r ≡ refusal_at s (i + 2) LoneSurrogate → Err r ≡ partner_at s i high
-      unfolding partner_at
-      no_d {b} q n e = rw (backslash, letter, ← q, ne_eqb b 13 n) (ap Err e)
-
--- its first three bytes are as they must be, and d is the value of the fourth
-pub record Begun (s : List ℕ) (i d : ℕ) : Type 0 where
+-- behind a high surrogate: the first three bytes are `\`, `u`, and D or d
+pub record Begun (s : List ℕ) (i : ℕ) : Type 0 where
   pub backslash : byte_at s i ≡ 0x5C
   pub letter : byte_at s (i + 1) ≡ 0x75
-  pub third : digit (byte_at s (i + 2)) ≡ 13
-  pub fourth : d ≡ digit (byte_at s (i + 3))
+  pub third : eqb (byte_at s (i + 2)) 0x44 || eqb (byte_at s (i + 2)) 0x64 ≡ true
 
-module _ {s : List ℕ} {i d : ℕ} (p : Begun s i d) (high : ℕ) where
-  pub not_low : {r : Refusal} → (12 ≤ d → 15 < d) → r ≡ refusal_at s (i + 3) LoneSurrogate → Err r ≡ partner_at s i high
+module _ {s : List ℕ} {i : ℕ} (p : Begun s i) (high : ℕ) where
+  -- no digit C to F: where the digit is d, it is none of them
+  pub no_low : ((d : ℕ) → digit (byte_at s (i + 3)) ≡ Some d → 12 ≤ d → 15 < d) → partner_at s i high ≡ stop_at s (i + 3) LoneSurrogate
   unfolding partner_at
-  not_low h e = rw (p.backslash, p.letter, p.third, ← p.fourth, beside 12 15 d h) (ap Err e)
+  no_low h =
+      rw (p.backslash, p.letter, p.third)
+      (by_some (λ x. x ≡ stop_at s (i + 3) LoneSurrogate) (digit (byte_at s (i + 3))) (λ d e. rw (beside 12 15 d (h d e))) (λ _. refl))
 
-  module _ (lo : 12 ≤ d) (hi : d ≤ 15) {x : Reading ℕ} (read : x ≡ hex_pair s (i + 4)) where
-    pub low_bad : {r : Refusal} → x ≡ Err r → Err r ≡ partner_at s i high
-    unfolding partner_at
-    low_bad t = rw (p.backslash, p.letter, p.third, ← p.fourth, inside 12 15 d lo hi, ← read, t)
-
-    pub low_read : {l v : ℕ} → x ≡ Ok l → v ≡ d → Ok (Char (pair_value high (256 * (0xD0 + v) + l)) (i + 6)) ≡ partner_at s i high
-    unfolding partner_at
-    low_read t w = rw (p.backslash, p.letter, p.third, ← p.fourth, inside 12 15 d lo hi, ← read, t, w)
+  -- a digit C to F: the last two digits decide
+  pub low_digits : {d : ℕ} → digit (byte_at s (i + 3)) ≡ Some d → 12 ≤ d → d ≤ 15
+      → partner_at s i high ≡ with_pair (λ l. Ok (Char (pair_value high (256 * (0xD0 + d) + l)) (i + 6))) (hex_pair s (i + 4))
+  unfolding partner_at
+  low_digits {d} fourth lo hi = rw (p.backslash, p.letter, p.third, fourth, inside 12 15 d lo hi)
 
 -- the last two digits behind the first two, h
 module _ (s : List ℕ) (i h : ℕ) {x : Reading ℕ} (read : x ≡ hex_pair s (i + 4)) where
@@ -92,18 +72,3 @@ module _ (s : List ℕ) (i : ℕ) {x : Reading ℕ} (read : x ≡ hex_pair s (i 
   pub unicode_rest : {h : ℕ} {r : Reading Step} → x ≡ Ok h → (0xDC ≤ h → 0xDF < h) → r ≡ rest_at s i h → r ≡ unicode_at s i
   unfolding unicode_at
   unicode_rest {h} t n e = rw (← read, t, beside 0xDC 0xDF h n) e
-
--- the byte behind the backslash, b
-module _ (s : List ℕ) (i : ℕ) {b : ℕ} (read : b ≡ byte_at s (i + 1)) where
-  pub escape_unicode : {r : Reading Step} → b ≡ 0x75 → r ≡ unicode_at s i → r ≡ escape_at s i
-  unfolding escape_at
-  escape_unicode q e = rw (← read, eq-eqb b 0x75 q) e
-
-  module _ (other : b ≡ 0x75 → ⊥) {v : ℕ} (letter : v ≡ escape_of b) where
-    pub escape_none : {r : Refusal} → v ≡ 0 → r ≡ wrong s (i + 1) → Err r ≡ escape_at s i
-    unfolding escape_at
-    escape_none z e = rw (← read, ne_eqb b 0x75 other, ← letter, eq-eqb v 0 z) (ap Err (e ∙ ap (λ (x : ℕ). refusal_at s (i + 1) (code_of x)) (sym read)))
-
-    pub escape_letter : {w : ℕ} → (v ≡ 0 → ⊥) → w ≡ v → Ok (Char w (i + 2)) ≡ escape_at s i
-    unfolding escape_at
-    escape_letter n e = rw (e, ← read, ne_eqb b 0x75 other, ← letter, ne_eqb v 0 n)

@@ -1,34 +1,33 @@
--- `chars::bytes::digit` meets its contract: each range by the rule computed over it.
-use Prim.Native.Nat.{◌-◌}
+-- `chars::bytes::digit` meets its contract: each range by its bounds, and all else outside of the three.
 use native.Mathlib.Omega.{arith}
 use Rattle.chars.specs.Bytes.{digit}
-use Rattle.model.proofs.Span.{agree}
+use Rattle.chars.proofs.bytes.Laws.{inside, beside}
 use Rattle.chars.proofs.bytes.digit.Goals as goal
 
-pub returns-in-48-to-57 : goal.returns-in-48-to-57
+pub returns-in-48-to-57-clause-value : goal.returns-in-48-to-57-clause-value
 unfolding digit
-returns-in-48-to-57 c = agree digit (λ b. b - 48) 48 10 tt _ (omega arith) c.in-48-to-57.if-b-lt58-own.true
+returns-in-48-to-57-clause-value c = rw (inside 0x30 0x39 c.args.b (omega arith) (omega arith))
 
-pub returns-in-65-to-70 : goal.returns-in-65-to-70
+pub returns-in-65-to-70-clause-value : goal.returns-in-65-to-70-clause-value
 unfolding digit
-returns-in-65-to-70 c = agree digit (λ b. b - 55) 65 6 tt _ (omega arith) c.in-65-to-70.if-b-lt71-own.true
+returns-in-65-to-70-clause-value c = rw (beside 0x30 0x39 c.args.b (λ l. omega arith), inside 0x41 0x46 c.args.b (omega arith) (omega arith))
 
-pub returns-in-97-to-102 : goal.returns-in-97-to-102
+pub returns-in-97-to-102-clause-value : goal.returns-in-97-to-102-clause-value
 unfolding digit
-returns-in-97-to-102 c = agree digit (λ b. b - 87) 97 6 tt _ (omega arith) c.in-97-to-102.if-b-lt103-own.true
+returns-in-97-to-102-clause-value c = rw (beside 0x30 0x39 c.args.b (λ l. omega arith), beside 0x41 0x46 c.args.b (λ l. omega arith), inside 0x61 0x66 c.args.b (omega arith) (omega arith))
 
-pub returns-in_default : goal.returns-in_default
+pub returns-in_default-clause-value : goal.returns-in_default-clause-value
 unfolding digit
-returns-in_default c = agree digit (λ _. 16) 0 48 tt _ (omega arith) c.in_default.if-b-lt48-own.true
+returns-in_default-clause-value c = rw (beside 0x30 0x39 c.args.b (λ l. omega arith), beside 0x41 0x46 c.args.b (λ l. omega arith), beside 0x61 0x66 c.args.b (λ l. omega arith))
 
-pub returns-in_default-2 : goal.returns-in_default-2
+pub returns-in_default-2-clause-value : goal.returns-in_default-2-clause-value
 unfolding digit
-returns-in_default-2 c = agree digit (λ _. 16) 58 7 tt _ (omega arith) c.in_default.if-b-lt65-own.true
+returns-in_default-2-clause-value c = rw (beside 0x30 0x39 c.args.b (λ l. omega arith), beside 0x41 0x46 c.args.b (λ l. omega arith), beside 0x61 0x66 c.args.b (λ l. omega arith))
 
-pub returns-in_default-3 : goal.returns-in_default-3
+pub returns-in_default-3-clause-value : goal.returns-in_default-3-clause-value
 unfolding digit
-returns-in_default-3 c = agree digit (λ _. 16) 71 26 tt _ (omega arith) c.in_default.if-b-lt97-own.true
+returns-in_default-3-clause-value c = rw (beside 0x30 0x39 c.args.b (λ l. omega arith), beside 0x41 0x46 c.args.b (λ l. omega arith), beside 0x61 0x66 c.args.b (λ l. omega arith))
 
-pub returns-in_default-4 : goal.returns-in_default-4
+pub returns-in_default-4-clause-value : goal.returns-in_default-4-clause-value
 unfolding digit
-returns-in_default-4 c = agree digit (λ _. 16) 103 153 tt _ c.in_default.if-b-lt103-own.false (omega arith)
+returns-in_default-4-clause-value c = rw (beside 0x30 0x39 c.args.b (λ l. omega arith), beside 0x41 0x46 c.args.b (λ l. omega arith), beside 0x61 0x66 c.args.b (λ l. omega arith))

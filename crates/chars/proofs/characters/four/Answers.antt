@@ -1,38 +1,48 @@
 -- `chars::characters::four` meets its contract: by the bits of the second, the third and the fourth byte.
-use mathlib.Core.Path.{◌≡◌}
-use Prim.Native.Nat.{◌+◌}
-use Rattle.chars.specs.Bytes.{byte_at, lowest, highest, six_bits}
+use mathlib.Core.Path.{ap}
+use Rattle.std.specs.Prelude.{Err}
+use Rattle.chars.specs.Characters.{four_at}
 use Rattle.chars.proofs.bytes.Laws.{lowest_least}
-use Rattle.chars.proofs.characters.Utf8.{Passed, four_begins, second_stopped, third_stopped, four_stopped, four_read}
 use Rattle.chars.proofs.characters.four.Goals as goal
 
-pub six_at-c-requires : goal.six_at-c-requires
-six_at-c-requires c = rw c.lowest.ensures (lowest_least _)
+pub six_at-requires : goal.six_at-requires
+six_at-requires c = rw c.lowest.ensures (lowest_least _)
 
-pub returns-then-c-gt63 : goal.returns-then-c-gt63
-returns-then-c-gt63 c =
-    let second : c.six_at-c.result ≡ six_bits (byte_at c.args.text.now (c.args.at + 1)) (lowest c.args.b) (highest c.args.b) =
-    cc in
-    second_stopped (four_begins _ _ _) (second) c.if-c-gt63.true c.refusal_at.ensures
+pub returns-in_default : goal.returns-in_default
+unfolding four_at
+returns-in_default c = rw (← c.lowest.ensures, ← c.highest.ensures, ← c.six_at.ensures.value, c.in_default.is) (ap Err c.refusal_at.ensures)
 
-pub returns-then-d-gt63 : goal.returns-then-d-gt63
-returns-then-d-gt63 c =
-    let second : c.six_at-c.result ≡ six_bits (byte_at c.args.text.now (c.args.at + 1)) (lowest c.args.b) (highest c.args.b) =
-    cc in
-    third_stopped (four_begins _ _ _) (second) c.if-c-gt63.false c.six_at-d.ensures c.if-d-gt63.true c.refusal_at-then-d-gt63.ensures
+pub returns-in_default-six_at : goal.returns-in_default-six_at
+unfolding four_at
+returns-in_default-six_at c =
+    rw (← c.lowest.ensures, ← c.highest.ensures, ← c.six_at.ensures.value, c.in-Some.is, ← c.six_at-2.ensures.value, c.in_default-six_at.is)
+    (ap Err c.refusal_at-in_default-six_at.ensures)
 
-pub returns-then-e-gt63 : goal.returns-then-e-gt63
-returns-then-e-gt63 c =
-    let second : c.six_at-c.result ≡ six_bits (byte_at c.args.text.now (c.args.at + 1)) (lowest c.args.b) (highest c.args.b) =
-    cc in
-    let passed : Passed c.args.text.now c.args.at c.args.b c.six_at-c.result c.six_at-d.result =
-    record { second = second; fits = c.if-c-gt63.false; third = c.six_at-d.ensures; small = c.if-d-gt63.false } in
-    four_stopped (passed) c.six_at-e.ensures c.if-e-gt63.true c.refusal_at-then-e-gt63.ensures
+pub returns-in_default-six_at-2 : goal.returns-in_default-six_at-2
+unfolding four_at
+returns-in_default-six_at-2 c =
+    rw (
+      ← c.lowest.ensures,
+      ← c.highest.ensures,
+      ← c.six_at.ensures.value,
+      c.in-Some.is,
+      ← c.six_at-2.ensures.value,
+      c.in-Some-six_at.is,
+      ← c.six_at-3.ensures.value,
+      c.in_default-six_at-2.is,
+    ) (ap Err c.refusal_at-in_default-six_at-2.ensures)
 
 pub returns : goal.returns
+unfolding four_at
 returns c =
-    let second : c.six_at-c.result ≡ six_bits (byte_at c.args.text.now (c.args.at + 1)) (lowest c.args.b) (highest c.args.b) =
-    cc in
-    let passed : Passed c.args.text.now c.args.at c.args.b c.six_at-c.result c.six_at-d.result =
-    record { second = second; fits = c.if-c-gt63.false; third = c.six_at-d.ensures; small = c.if-d-gt63.false } in
-    four_read (passed) c.six_at-e.ensures c.wide.ensures c.if-e-gt63.false
+    rw (
+      ← c.lowest.ensures,
+      ← c.highest.ensures,
+      ← c.six_at.ensures.value,
+      c.in-Some.is,
+      ← c.six_at-2.ensures.value,
+      c.in-Some-six_at.is,
+      ← c.six_at-3.ensures.value,
+      c.in-Some-six_at-2.is,
+      c.wide.ensures,
+    )

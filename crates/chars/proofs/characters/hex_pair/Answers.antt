@@ -1,13 +1,18 @@
 -- `chars::characters::hex_pair` meets its contract: by the values of both digits.
-use native.Mathlib.Omega.{arith}
-use Rattle.chars.proofs.characters.Escapes.{first_bad, second_bad, pair_read}
+use mathlib.Core.Path.{ap}
+use Rattle.std.specs.Prelude.{Err}
+use Rattle.chars.specs.Characters.{hex_pair}
 use Rattle.chars.proofs.characters.hex_pair.Goals as goal
 
-pub returns-then-a-gt15 : goal.returns-then-a-gt15
-returns-then-a-gt15 c = first_bad _ _ (omega arith) c.if-a-gt15.true c.wrong.ensures
+pub returns-in_default : goal.returns-in_default
+unfolding hex_pair
+returns-in_default c = rw (← c.digit_at.ensures.value, c.in_default.is) (ap Err c.wrong.ensures)
 
-pub returns-then-b-gt15 : goal.returns-then-b-gt15
-returns-then-b-gt15 c = second_bad _ _ (omega arith) c.if-a-gt15.false (omega arith) c.if-b-gt15.true c.wrong-then-b-gt15.ensures
+pub returns-in_default-digit_at : goal.returns-in_default-digit_at
+unfolding hex_pair
+returns-in_default-digit_at c =
+    rw (← c.digit_at.ensures.value, c.in-Some.is, ← c.digit_at-2.ensures.value, c.in_default-digit_at.is) (ap Err c.wrong-in_default-digit_at.ensures)
 
 pub returns : goal.returns
-returns c = pair_read _ _ (omega arith) c.if-a-gt15.false (omega arith) c.if-b-gt15.false
+unfolding hex_pair
+returns c = rw (← c.digit_at.ensures.value, c.in-Some.is, ← c.digit_at-2.ensures.value, c.in-Some-digit_at.is)

@@ -1,10 +1,13 @@
 -- `chars::characters::two` meets its contract: by the bits of the second byte.
-use native.Mathlib.Omega.{arith}
-use Rattle.chars.proofs.characters.Utf8.{two_stopped, two_read}
+use mathlib.Core.Path.{ap}
+use Rattle.std.specs.Prelude.{Err}
+use Rattle.chars.specs.Characters.{two_at}
 use Rattle.chars.proofs.characters.two.Goals as goal
 
-pub returns-then-c-gt63 : goal.returns-then-c-gt63
-returns-then-c-gt63 c = two_stopped _ _ _ (omega arith) c.if-c-gt63.true c.refusal_at.ensures
+pub returns-in_default : goal.returns-in_default
+unfolding two_at
+returns-in_default c = rw (← c.six_at.ensures.value, c.in_default.is) (ap Err c.refusal_at.ensures)
 
 pub returns : goal.returns
-returns c = two_read _ _ _ (omega arith) c.wide.ensures c.if-c-gt63.false
+unfolding two_at
+returns c = rw (← c.six_at.ensures.value, c.in-Some.is, c.wide.ensures)
