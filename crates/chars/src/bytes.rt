@@ -18,6 +18,7 @@ pub fn peek(text: &[u8], at: usize) -> u8
 }
 
 // What is wrong with a byte that an escape may not hold.
+#[tactic(auto, using(crate::proofs::bytes::Laws::inside, crate::proofs::bytes::Laws::beside), unfolding(crate::specs::Bytes::code_of))]
 pub fn code_of(b: u8) -> Code
     ensures { result ≡ code_of b }
 {
@@ -28,6 +29,7 @@ pub fn code_of(b: u8) -> Code
 }
 
 // The value of a hex digit.
+#[tactic(auto, using(crate::proofs::bytes::Laws::inside, crate::proofs::bytes::Laws::beside), unfolding(crate::specs::Bytes::digit))]
 pub fn digit(b: u8) -> Option<u8>
     ensures value { result ≡ digit b }
     ensures small { IfSome result (λ v. v ≤ 15) }
@@ -41,6 +43,7 @@ pub fn digit(b: u8) -> Option<u8>
 }
 
 // The character that a letter behind a backslash names.
+#[tactic(auto, unfolding(crate::specs::Bytes::escape_of))]
 pub fn escape_of(b: u8) -> Option<u8>
     ensures { result ≡ escape_of b }
 {
@@ -58,6 +61,7 @@ pub fn escape_of(b: u8) -> Option<u8>
 }
 
 // The least and the greatest second byte of a character of UTF-8, by its first.
+#[tactic(auto, unfolding(crate::specs::Bytes::lowest))]
 pub fn lowest(b: u8) -> u8
     ensures { result ≡ lowest b }
 {
@@ -68,6 +72,7 @@ pub fn lowest(b: u8) -> u8
     }
 }
 
+#[tactic(auto, unfolding(crate::specs::Bytes::highest))]
 pub fn highest(b: u8) -> u8
     ensures { result ≡ highest b }
 {
@@ -79,6 +84,7 @@ pub fn highest(b: u8) -> u8
 }
 
 // The six bits of a byte from `lo` to `hi`.
+#[tactic(auto, using(crate::proofs::bytes::Laws::inside, crate::proofs::bytes::Laws::beside), unfolding(crate::specs::Bytes::six_bits))]
 pub fn six_bits(b: u8, lo: u8, hi: u8) -> Option<u32>
     requires { 0x80 ≤ lo }
     ensures value { result ≡ six_bits b lo hi }

@@ -42,6 +42,7 @@ fn wrong(text: &[u8], at: usize) -> Refusal
 }
 
 // Two hex digits at a place.
+#[tactic(auto, unfolding(crate::specs::Characters::hex_pair))]
 fn hex_pair(text: &[u8], at: usize) -> Reading<u16>
     requires { at ≤ length text.now + 12 }
     ensures { result ≡ hex_pair text.now at }
@@ -56,6 +57,7 @@ fn hex_pair(text: &[u8], at: usize) -> Reading<u16>
 }
 
 // Behind the escape of the high surrogate `high`.
+#[tactic(auto, using(crate::proofs::bytes::Laws::inside, crate::proofs::bytes::Laws::beside), unfolding(crate::specs::Characters::partner_at))]
 fn partner(text: &[u8], at: usize, high: u32) -> Reading<Step>
     requires { (at ≤ length text.now + 8) × (0xD800 ≤ high) × (high < 0x20000) }
     ensures { result ≡ partner_at text.now at high }
@@ -81,6 +83,7 @@ fn partner(text: &[u8], at: usize, high: u32) -> Reading<Step>
 }
 
 // The last two digits of the escape at a place, behind the first two.
+#[tactic(auto, using(crate::proofs::bytes::Laws::inside, crate::proofs::bytes::Laws::beside), unfolding(crate::specs::Characters::rest_at))]
 fn rest(text: &[u8], at: usize, first: u16) -> Reading<Step>
     requires { at ≤ length text.now }
     ensures { result ≡ rest_at text.now at first }
@@ -97,6 +100,7 @@ fn rest(text: &[u8], at: usize, first: u16) -> Reading<Step>
 }
 
 // The escape at a place, with four hex digits.
+#[tactic(auto, using(crate::proofs::bytes::Laws::inside, crate::proofs::bytes::Laws::beside), unfolding(crate::specs::Characters::unicode_at))]
 fn unicode(text: &[u8], at: usize) -> Reading<Step>
     requires { at ≤ length text.now }
     ensures { result ≡ unicode_at text.now at }
@@ -112,6 +116,7 @@ fn unicode(text: &[u8], at: usize) -> Reading<Step>
 }
 
 // The escape whose backslash stands at a place.
+#[tactic(auto, unfolding(crate::specs::Characters::escape_at))]
 fn escape(text: &[u8], at: usize) -> Reading<Step>
     requires { at ≤ length text.now }
     ensures { result ≡ escape_at text.now at }
@@ -130,6 +135,7 @@ fn escape(text: &[u8], at: usize) -> Reading<Step>
 }
 
 // The characters of UTF-8 with two, three and four bytes, of which the first is `b`.
+#[tactic(auto, unfolding(crate::specs::Characters::two_at))]
 fn two(text: &[u8], at: usize, b: u8) -> Reading<Step>
     requires { (at ≤ length text.now) × (0xC2 ≤ b) × (b < 0xE0) }
     ensures { result ≡ two_at text.now at b }
@@ -143,6 +149,7 @@ fn two(text: &[u8], at: usize, b: u8) -> Reading<Step>
     })
 }
 
+#[tactic(auto, using(crate::proofs::bytes::Laws::lowest_least), unfolding(crate::specs::Characters::three_at))]
 fn three(text: &[u8], at: usize, b: u8) -> Reading<Step>
     requires { (at ≤ length text.now) × (0xE0 ≤ b) × (b < 0xF0) }
     ensures { result ≡ three_at text.now at b }
@@ -159,6 +166,7 @@ fn three(text: &[u8], at: usize, b: u8) -> Reading<Step>
     })
 }
 
+#[tactic(auto, using(crate::proofs::bytes::Laws::lowest_least), unfolding(crate::specs::Characters::four_at))]
 fn four(text: &[u8], at: usize, b: u8) -> Reading<Step>
     requires { (at ≤ length text.now) × (0xF0 ≤ b) × (b < 0xF5) }
     ensures { result ≡ four_at text.now at b }

@@ -6,6 +6,7 @@ ghost use Rattle.chars.specs.Wide.{WideStep};
 use crate::bytes::{highest, lowest, peek, six_at};
 
 // The place behind the character of several bytes that stands at a place.
+#[tactic(auto, using(crate::proofs::bytes::Laws::lowest_least, crate::proofs::wide::Laws::three_wide, crate::proofs::wide::Laws::four_wide))]
 fn wide_end(text: &[u8], at: usize) -> Option<usize>
     ensures { IfSome result (WideStep text.now at) }
 {
@@ -31,6 +32,7 @@ fn wide_end(text: &[u8], at: usize) -> Option<usize>
 }
 
 // A place from `at` on, behind such characters, from which the string goes on as from `at`.
+#[tactic(auto, using(crate::proofs::strings::Laws::char_next, crate::proofs::strings::Laws::string_char))]
 pub fn wides(text: &[u8], at: usize) -> usize
     ensures { (at ≤ result) × (string_at text.now result ≡ string_at text.now at) }
 {
