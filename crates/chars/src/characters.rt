@@ -21,6 +21,7 @@ pub struct Character {
 }
 
 // The byte at a place is an offence, unless the text ended before it.
+#[tactic(auto, unfolding(crate::specs::Characters::refusal_at))]
 pub fn refusal_at(text: &[u8], at: usize, code: Code) -> Refusal
     ensures { result ≡ refusal_at text.now at code }
 {
@@ -187,6 +188,7 @@ fn four(text: &[u8], at: usize, b: u8) -> Reading<Step>
 }
 
 // What stands at a place of a string, whichever it is.
+#[tactic(auto, unfolding(crate::specs::Characters::char_at, crate::specs::Characters::char_from))]
 pub fn special(text: &[u8], at: usize) -> Reading<Step>
     ensures { result ≡ char_at text.now at }
 {
@@ -209,6 +211,7 @@ pub fn special(text: &[u8], at: usize) -> Reading<Step>
 }
 
 // The same: a byte that stands for itself, and the closing quote, are told without a call.
+#[tactic(auto, using(crate::proofs::plain::Laws::plain_read, crate::proofs::plain::Laws::quote_char))]
 pub fn char_at(text: &[u8], at: usize) -> Reading<Step>
     ensures { result ≡ char_at text.now at }
 {
