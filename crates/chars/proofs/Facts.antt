@@ -1,7 +1,7 @@
 -- What the crates above cite.
 
 -- runs of bytes
-pub use Rattle.chars.proofs.Runs.{run_end, run_ended, run-from, run_left, run_next, run_over, run_stop, run_within}
+pub use Rattle.chars.proofs.runs.Laws.{run_end, run_ended, run-from, run_left, run_next, run_over, run_stop, run_within}
 -- classes of bytes, and tests
 pub use Rattle.chars.proofs.bytes.Laws.{beside, digit_ways, highest_of, in_text, lowest_least, lowest_of, outside, six_ways}
 -- the last number that passes a test
@@ -10,7 +10,7 @@ pub use Rattle.chars.proofs.hashing.Last.{last_before, last_found, last_here, la
 pub use Rattle.chars.proofs.characters.Laws.{Scalar, by_some}
 pub use Rattle.chars.proofs.plain.Laws.{digit_read}
 -- strings: a character at a time, where they end, and what stands in them
-pub use Rattle.chars.proofs.strings.Laws.{ScanAhead, char_next, chars_char, chars_none, chars_step, string_ahead, string_bounds}
+pub use Rattle.chars.proofs.strings.Laws.{char_read, ScanAhead, char_next, chars_char, chars_none, chars_step, string_ahead, string_bounds}
 pub use Rattle.chars.proofs.strings.Laws.{string_char, string_close, string_quote, string_stop}
 pub use Rattle.chars.proofs.strings.Meaning.{Scalars, same_true, scalars}
 pub use Rattle.chars.proofs.strings.Parts.{body_characters}

@@ -6,6 +6,7 @@ mod characters;
 mod hashing;
 mod plain;
 mod refusals;
+mod runs;
 mod strings;
 mod wide;
 
@@ -13,4 +14,5 @@ pub use bytes::peek;
 pub use characters::{Character, Step, char_at, character_at, refusal_at};
 pub use hashing::{Hashed, hashed_end};
 pub use refusals::{Code, Reading, Refusal};
+pub use runs::run_end;
 pub use strings::{same_name, string_end};

@@ -2,6 +2,8 @@
 ghost use Rattle.std.specs.Prelude.{◌≡◌};
 ghost use Rattle.chars.specs.Plain.{is_plain, plain_end};
 
+use crate::runs::run_end;
+
 pub fn is_plain(b: u8) -> bool
     ensures { result ≡ is_plain b }
 {
@@ -17,12 +19,5 @@ pub fn is_plain(b: u8) -> bool
 pub fn plain_end(text: &[u8], at: usize) -> usize
     ensures { result ≡ plain_end text.now at }
 {
-    let mut i = at;
-    while i < text.len() {
-        if !is_plain(text[i]) {
-            return i;
-        }
-        i += 1;
-    }
-    i
+    run_end(text, at, is_plain)
 }

@@ -5,7 +5,7 @@ use Rattle.model.specs.Text.{text}
 use Rattle.model.specs.Value.{null, string, vnil, vcons, mnil, mcons, array as list, object as record_of}
 use Rattle.model.specs.Definition.{JSON, Float, Integer, String, DateTime, Def, named, array_of, map_of, object-of, Fields, fnil, fcons}
 use Rattle.model.specs.Witness.{witness}
-use Rattle.tokens.specs.Tokens.{Whole, Quoted}
+use Rattle.tokens.specs.declared.tokens.Kind.TheVariants.{Whole, Quoted}
 use Rattle.syntax.specs.Tree.{scalar, array, object, none, more, no_member, member}
 use Rattle.grammar.specs.Utf8.{utf8}
 use Rattle.writer.specs.Spell.{letter_of, spell_char, spell}

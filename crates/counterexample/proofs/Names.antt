@@ -7,7 +7,8 @@ use lib.ListN.{length}
 use Rattle.tokens.specs.Parse.{parsed}
 use Rattle.tokens.specs.Space.{skip}
 use Rattle.tokens.specs.Spelling.{IsQuoted}
-use Rattle.tokens.specs.Tokens.{Kind, Null, False, True, Whole, Fractional, Quoted}
+use Rattle.tokens.specs.declared.tokens.Kind.{Kind}
+use Rattle.tokens.specs.declared.tokens.Kind.TheVariants.{Null, False, True, Whole, Fractional, Quoted}
 use Rattle.tokens.proofs.Facts.{quoted_characters}
 use Rattle.syntax.specs.Tree.{Node, Nodes, none, more, add_node, Members, no_member, member, add_member}
 use Rattle.syntax.specs.Grammar.{name_of, read_text}

@@ -2,6 +2,7 @@
 use mathlib.Core.Path.{◌≡◌, refl}
 use mathlib.Core.Bool.{true, false}
 use lib.IntN.{pos, neg_ℤ}
+use Rattle.std.specs.Prelude.{Some, None}
 use Rattle.model.specs.Text.{text}
 use Rattle.model.specs.Calendar.{on, first_months, first_years, day_count}
 use Rattle.model.proofs.DayNumbers.{first_day, number_count, least_number, greatest_number}
@@ -9,26 +10,26 @@ use Rattle.date.specs.Days.{written_day, is_day_number, WritesDay}
 
 -- the written day counts, whatever the time and the offset, and what stands behind it
 written :
-    (written_day (text "2024-04-30T23:59:59.5+02:00") ≡ day_count (on 2024 4 30))
-    × (written_day (text "2024-04-30T00:00:00+23:59") ≡ day_count (on 2024 4 30))
-    × (written_day (text "2024-04-30T23:59:59-23:59") ≡ day_count (on 2024 4 30))
-    × (written_day (text "2024-04-30 or so") ≡ day_count (on 2024 4 30))
+    (written_day (text "2024-04-30T23:59:59.5+02:00") ≡ Some (day_count (on 2024 4 30)))
+    × (written_day (text "2024-04-30T00:00:00+23:59") ≡ Some (day_count (on 2024 4 30)))
+    × (written_day (text "2024-04-30T23:59:59-23:59") ≡ Some (day_count (on 2024 4 30)))
+    × (written_day (text "2024-04-30 or so") ≡ Some (day_count (on 2024 4 30)))
 written = (refl, refl, refl, refl)
 
 counts :
-    (written_day (text "0000-01-01T00:00:00Z") ≡ 0)
-    × (written_day (text "0000-03-01T00:00:00Z") ≡ 60)
-    × (written_day (text "1970-01-01T00:00:00Z") ≡ 719528)
+    (written_day (text "0000-01-01T00:00:00Z") ≡ Some 0)
+    × (written_day (text "0000-03-01T00:00:00Z") ≡ Some 60)
+    × (written_day (text "1970-01-01T00:00:00Z") ≡ Some 719528)
 unfolding day_count first_years first_months
 counts = (refl, refl, refl)
 
 -- no day
 unwritten :
-    (written_day (text "2023-02-29T00:00:00Z") ≡ 0)
-    × (written_day (text "2024-13-01T00:00:00Z") ≡ 0)
-    × (written_day (text "2024-4-30T00:00:00Z") ≡ 0)
-    × (written_day (text "2024-04-3") ≡ 0)
-    × (written_day (text "") ≡ 0)
+    (written_day (text "2023-02-29T00:00:00Z") ≡ None)
+    × (written_day (text "2024-13-01T00:00:00Z") ≡ None)
+    × (written_day (text "2024-4-30T00:00:00Z") ≡ None)
+    × (written_day (text "2024-04-3") ≡ None)
+    × (written_day (text "") ≡ None)
 unwritten = (refl, refl, refl, refl, refl)
 
 -- the first and the last number of a day, and the next

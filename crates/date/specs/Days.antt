@@ -1,12 +1,12 @@
 -- Days by number: the one that a string begins with, and the text of one.
-use Rattle.std.specs.Prelude.{ℕ, ◌≡◌, Bool, true, false, cond, ◌&&◌, List, ℤ, length, replicate}
+use Rattle.std.specs.Prelude.{ℕ, ◌≡◌, Bool, true, false, cond, ◌&&◌, List, ℤ, Option, Some, None, length}
 use Rattle.std.specs.Int.Signed.{le_z}
 use Rattle.model.specs.Calendar.{on, day_count, day_number}
 use Rattle.model.specs.Date.{day_of, is_day}
 
--- the days from 0000-01-01 to the day that is written at the start of a string; 0 where there is none
-abbrev pub written_day : List ℕ → ℕ
-written_day l = cond (is_day l) (day_count (day_of l)) 0
+-- the days from 0000-01-01 to the day that is written at the start of a string
+abbrev pub written_day : List ℕ → Option ℕ
+written_day l = cond (is_day l) (Some (day_count (day_of l))) None
 
 -- a day of the years 0000 to 9999 has this number
 abbrev pub is_day_number : ℤ → Bool
@@ -18,7 +18,7 @@ pub record WritesDay (z : ℤ) (bytes : List ℕ) : Type 0 where
   pub is-day : is_day bytes ≡ true
   pub number : day_number (day_of bytes) ≡ z
 
--- the bytes are that day, or zeros where there is none
-pub record DayText (z : ℤ) (bytes : List ℕ) : Type 0 where
-  pub written : is_day_number z ≡ true → WritesDay z bytes
-  pub none : is_day_number z ≡ false → bytes ≡ replicate 10 0
+-- the text is that day, where there is one
+abbrev pub DayText : ℤ → Option (List ℕ) → Type 0
+DayText z (Some bytes) = (is_day_number z ≡ true) × WritesDay z bytes
+DayText z None = is_day_number z ≡ false

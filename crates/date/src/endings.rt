@@ -5,78 +5,52 @@ ghost use Rattle.chars.specs.Strings.{chars_at};
 ghost use Rattle.date.specs.Endings.{offset_read, zone_read, end_read};
 
 use crate::fields::{Time, clock};
-use crate::walk::{Found, Number, digit, either, ends, mark};
+use crate::walk::{Number, digit, either, ends, mark};
 
-// The minutes of a day, which no offset has.
+// The minutes of a day.
 const DAY: u32 = 1440;
 
-// The minutes of `hh:mm` behind the sign `c` at a place, with nothing behind it; a day for anything else.
-fn offset(body: &[u8], at: usize, c: u8) -> u32
+// The minutes of `hh:mm` behind the sign `c` at a place, with nothing behind it.
+fn offset(body: &[u8], at: usize, c: u8) -> Option<u32>
     requires { 0 < c }
     ensures { result ≡ offset_read c (chars_at body.now at) }
 {
-    let body = &body[..];
-    let Found::Behind(time) = mark(body, at, c) else {
-        return DAY;
-    };
-    let Time::At { minutes, next } = clock(body, time) else {
-        return DAY;
-    };
-    if !ends(body, next) {
-        return DAY;
-    }
-    minutes
+    let Time { minutes, next } = clock(body, mark(body, at, c)?)?;
+    ends(body, next).then_some(minutes)
 }
 
-// How far the zone at a place is behind UTC, in minutes, and a day more; 0 where there is none, or more behind it.
-fn zone(body: &[u8], at: usize) -> u32
+// How far the zone at a place is behind UTC, in minutes, and a day more; with nothing behind it.
+fn zone(body: &[u8], at: usize) -> Option<u32>
     ensures { result ≡ zone_read (chars_at body.now at) }
 {
-    let body = &body[..];
-    if let Found::Behind(next) = either(body, at, b'Z', b'z') {
-        if ends(body, next) {
-            return DAY;
-        }
-        return 0;
+    if let Some(next) = either(body, at, b'Z', b'z') {
+        return ends(body, next).then_some(DAY);
     }
-    let ahead = offset(body, at, b'+');
-    if ahead < DAY {
-        return DAY - ahead;
+    if let Some(ahead) = offset(body, at, b'+') {
+        return Some(DAY - ahead);
     }
-    let behind = offset(body, at, b'-');
-    if behind < DAY {
-        return DAY + behind;
-    }
-    0
+    let behind = offset(body, at, b'-')?;
+    Some(DAY + behind)
 }
 
 // The zone behind the digits at a place, of which there may be none.
-fn digits(body: &[u8], at: usize) -> u32
+fn digits(body: &[u8], at: usize) -> Option<u32>
     ensures { result ≡ zone_read (after_digits (chars_at body.now at)) }
 {
     let mut i = at;
-    loop {
-        match digit(body, i) {
-            Number::Read { value: _, next } => {
-                i = next;
-            }
-            Number::Wrong => {
-                return zone(body, i);
-            }
-        }
+    while let Some(Number { next, .. }) = digit(body, i) {
+        i = next;
     }
+    zone(body, i)
 }
 
 // Behind the seconds: perhaps `.` and one digit or more, then the zone.
-pub fn ending(body: &[u8], at: usize) -> u32
+pub fn ending(body: &[u8], at: usize) -> Option<u32>
     ensures { result ≡ end_read (chars_at body.now at) }
 {
-    let body = &body[..];
-    let Found::Behind(point) = mark(body, at, b'.') else {
+    let Some(point) = mark(body, at, b'.') else {
         return zone(body, at);
     };
-    match digit(body, point) {
-        Number::Read { value: _, next } => digits(body, next),
-        Number::Wrong => 0,
-    }
+    let Number { next, .. } = digit(body, point)?;
+    digits(body, next)
 }

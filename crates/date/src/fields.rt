@@ -2,87 +2,48 @@
 ghost use Rattle.std.specs.Prelude.{List, ℕ};
 ghost use Rattle.date.specs.Walk.{Stands, DayTold, ClockTold};
 
-use crate::calendar::in_calendar;
+use crate::calendar::Day;
 use crate::walk::{Number, four, marked, two};
 
 // A day that the calendar has, and the place behind it.
-#[derive(Clone, Copy)]
-pub enum Date {
-    On {
-        year: u32,
-        month: u32,
-        day: u32,
-        next: usize,
-    },
-    NoDate,
+#[derive(Clone, Copy, Debug, PartialEq, Eq)]
+pub struct Date {
+    pub day: Day,
+    pub next: usize,
 }
 
 // The minutes of a time of the day, and the place behind it.
-#[derive(Clone, Copy)]
-pub enum Time {
-    At { minutes: u32, next: usize },
-    NoTime,
+#[derive(Clone, Copy, Debug, PartialEq, Eq)]
+pub struct Time {
+    pub minutes: u32,
+    pub next: usize,
 }
 
 // `YYYY-MM-DD` at the start.
-pub fn day(body: &[u8]) -> Date
+pub fn day(body: &[u8]) -> Option<Date>
     ensures { DayTold body.now result }
 {
-    let Number::Read {
-        value: year,
-        next: first,
-    } = four(body, 0)
-    else {
-        return Date::NoDate;
-    };
-    let Number::Read {
-        value: month,
-        next: second,
-    } = marked(body, first, b'-')
-    else {
-        return Date::NoDate;
-    };
-    let Number::Read { value: day, next } = marked(body, second, b'-') else {
-        return Date::NoDate;
-    };
-    if !in_calendar(year, month, day) {
-        return Date::NoDate;
-    }
-    Date::On {
-        year,
-        month,
-        day,
-        next,
-    }
+    let Number { value: year, next } = four(body, 0)?;
+    let Number { value: month, next } = marked(body, next, b'-')?;
+    let Number { value: day, next } = marked(body, next, b'-')?;
+    let day = Day::new(year, month, day)?;
+    Some(Date { day, next })
 }
 
 // `hh:mm` at a place: hours 00 to 23, minutes 00 to 59.
-pub fn clock(body: &[u8], at: usize) -> Time
+pub fn clock(body: &[u8], at: usize) -> Option<Time>
     ensures { (l : List ℕ) (k : ℕ) → Stands body.now at l k → ClockTold body.now l k result }
 {
-    let body = &body[..];
-    let Number::Read {
-        value: hour,
-        next: colon,
-    } = two(body, at)
-    else {
-        return Time::NoTime;
-    };
-    let Number::Read {
+    let Number { value: hour, next } = two(body, at)?;
+    let Number {
         value: minute,
         next,
-    } = marked(body, colon, b':')
-    else {
-        return Time::NoTime;
-    };
-    if hour > 23 {
-        return Time::NoTime;
+    } = marked(body, next, b':')?;
+    if hour > 23 || minute > 59 {
+        return None;
     }
-    if minute > 59 {
-        return Time::NoTime;
-    }
-    Time::At {
+    Some(Time {
         minutes: 60 * hour + minute,
         next,
-    }
+    })
 }

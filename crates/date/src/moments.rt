@@ -1,12 +1,9 @@
 // Moments (02, L3).
-ghost use Rattle.std.specs.Prelude.{◌≡◌, true, ◌+◌, ◌*◌, ◌≤◌, ◌<◌};
+ghost use Rattle.std.specs.Prelude.{◌≡◌, ◌+◌, ◌*◌, ◌≤◌, ◌<◌};
 ghost use Rattle.std.proofs.Math.IntN.{sub_ℕ};
-ghost use Rattle.model.specs.Calendar.{on, in_calendar};
 ghost use Rattle.date.specs.Moments.{moment_at};
 
-use crate::Moment;
-use crate::days::day_count;
-use crate::seconds::has_second;
+use crate::calendar::Day;
 
 // The seconds from the start of the day before 0000-01-01 to 1970-01-01T00:00:00Z.
 const EPOCH: i64 = 62167305600;
@@ -17,17 +14,19 @@ fn seconds_at(days: u32, moved: u32, second: u32) -> i64
     requires { (days ≤ 3652424) × (moved < 4319) × (second ≤ 60) }
     ensures { result ≡ sub_ℕ (86400 * days + 60 * moved + second) 62167305600 }
 {
-    let seconds = 86400 * days as u64 + 60 * moved as u64 + second as u64;
-    seconds as i64 - EPOCH
+    86400 * i64::from(days) + 60 * i64::from(moved) + i64::from(second) - EPOCH
 }
 
-// The moment of a second, where the minute of the moved time has it.
-pub fn moment_at(year: u32, month: u32, day: u32, moved: u32, second: u32) -> Moment
-    requires { (in_calendar (on year month day) ≡ true) × (year ≤ 9999) × (moved < 4319) }
-    ensures { result ≡ moment_at (on year month day) moved second }
-{
-    if !has_second(second, month, day, moved) {
-        return Moment::NoDate;
+impl Day {
+    // The moment of a second, where the minute of a moved time has it.
+    #[tactic(auto, using(model::proofs::LeapSeconds::has_most))]
+    pub fn moment_at(self, moved: u32, second: u32) -> Option<i64>
+        requires { moved < 4319 }
+        ensures { result ≡ moment_at self moved second }
+    {
+        if !self.has_second(second, moved) {
+            return None;
+        }
+        Some(seconds_at(self.count(), moved, second))
     }
-    Moment::At(seconds_at(day_count(year, month, day), moved, second))
 }

@@ -3,7 +3,8 @@ use Rattle.std.specs.Prelude.{ℕ, ◌≡◌, Bool, true, false, cond, ◌||◌,
 use Rattle.std.proofs.Math.Option.{Option, none, some}
 use Rattle.model.specs.Text.{text, same}
 use Rattle.model.specs.Definition.{Named, named_by, Def, named, array_of, map_of, object-of, Fields, fnil, fcons}
-use Rattle.tokens.specs.Tokens.{Kind, Null, False, True, Whole, Fractional, Quoted}
+use Rattle.tokens.specs.declared.tokens.Kind.{Kind}
+use Rattle.tokens.specs.declared.tokens.Kind.TheVariants.{Null, False, True, Whole, Fractional, Quoted}
 use Rattle.syntax.specs.Tree.{Node, scalar, array, object, Members, no_member, member}
 use Rattle.syntax.specs.Grammar.{name_of}
 use Rattle.rows.specs.Records.{Rowed, PartRow}

@@ -7,10 +7,14 @@ use native.Mathlib.Omega.{arith}
 use lib.ListN.{length}
 use lib.Dec.{ltb, leb, eqb}
 use borrow.Author.Tests.{ltb-true, leb-true, eqb-true, lt-ltb, le-leb, lt-leb, eq-eqb, ne_eqb}
+use Rattle.std.specs.Prelude.{Ok, Err}
+use Rattle.chars.specs.Refusals.{number, refusal, Reading}
+use Rattle.chars.specs.declared.refusals.Code.TheVariants.{NotAllowed, NotUtf8, LoneSurrogate}
 use Rattle.chars.specs.Bytes.{byte_at, from_to, code_of, digit, escape_of, lowest, highest, six_bits}
-use Rattle.chars.specs.Characters.{stop_at, wrong_at, hex_pair, with_pair, pair_value, partner_at, rest_at, unicode_at, escape_at, two_at, three_at, four_at, char_from, char_at}
+use Rattle.chars.specs.Characters.{refusal_at, hex_pair, with_pair, pair_value, partner_at, rest_at, unicode_at, escape_at}
+use Rattle.chars.specs.Characters.{two_at, three_at, four_at, char_from, char_at}
 use Rattle.chars.specs.declared.characters.Step.{Step}
-use Rattle.chars.specs.declared.characters.Step.TheVariants.{Quote, Refused}
+use Rattle.chars.specs.declared.characters.Step.TheVariants.{Quote}
 use Rattle.model.proofs.Basics.{both, and_ways, by_test}
 use Rattle.chars.proofs.Facts.{in_text, digit_byte, lowest_least}
 use Rattle.grammar.specs.Utf8.{In}
@@ -37,7 +41,7 @@ hex b = leb (digit b) 15
 abbrev pub pair_tree : (ℕ → Bool) → (ℕ → Tree) → Tree
 pair_tree good f =
     next hex code_of
-    (λ a. next (λ b. cond (hex b) (good (16 * digit a + digit b)) false) (λ b. cond (hex b) 5 (code_of b)) (λ b. f (16 * digit a + digit b)))
+    (λ a. next (λ b. cond (hex b) (good (16 * digit a + digit b)) false) (λ b. cond (hex b) LoneSurrogate (code_of b)) (λ b. f (16 * digit a + digit b)))
 
 abbrev pub any : ℕ → Bool
 any v = true
@@ -49,10 +53,10 @@ joined_tree high x l = give (pair_value high (256 * (0xD0 + x) + l))
 -- behind the escape of a high surrogate
 abbrev pub partner_tree : ℕ → Tree
 partner_tree high =
-    next (λ b. eqb b 0x5C) (λ _. 5)
-    (λ _. next (λ b. eqb b 0x75) (λ _. 5)
-    (λ _. next (λ b. eqb (digit b) 13) (λ _. 5)
-    (λ _. next (λ b. from_to 12 15 (digit b)) (λ _. 5)
+    next (λ b. eqb b 0x5C) (λ _. LoneSurrogate)
+    (λ _. next (λ b. eqb b 0x75) (λ _. LoneSurrogate)
+    (λ _. next (λ b. eqb (digit b) 13) (λ _. LoneSurrogate)
+    (λ _. next (λ b. from_to 12 15 (digit b)) (λ _. LoneSurrogate)
     (λ d. pair_tree any (joined_tree high (digit d))))))
 
 -- behind four digits, of which the first two are h and the others l
@@ -78,7 +82,7 @@ abbrev pub tail : ℕ → ℕ → ℕ → Bool
 tail lo hi c = leb (six_bits c lo hi) 63
 
 abbrev pub tail_tree : ℕ → ℕ → (ℕ → Tree) → Tree
-tail_tree lo hi f = next (tail lo hi) (λ _. 4) (λ c. f (six_bits c lo hi))
+tail_tree lo hi f = next (tail lo hi) (λ _. NotUtf8) (λ c. f (six_bits c lo hi))
 
 -- the character of a first byte b and the bits of the others
 abbrev pub two : ℕ → ℕ → Tree
@@ -113,7 +117,7 @@ abbrev pub after : ℕ → Tree
 after b = cond (eqb b 0x5C) escape_tree (cond (ltb b 0x80) (give b) (wide_tree b))
 
 abbrev pub char_tree : Tree
-char_tree = next start (λ b. cond (ltb b 0x20) 3 4) after
+char_tree = next start (λ b. cond (ltb b 0x20) NotAllowed NotUtf8) after
 
 -- ---- it is what is read
 
@@ -134,9 +138,10 @@ module _ (s : List ℕ) where
   hex_in : (i : ℕ) → hex (byte_at s i) ≡ true → i < length s
   hex_in i t = in_text s i (digit_byte (byte_at s i) (leb-true _ _ t))
 
-  pair_walk : (good : ℕ → Bool) (f : ℕ → Tree) (k : ℕ → Step) (i : ℕ) → ((v : ℕ) → k v ≡ cond (good v) (walk (f v) s (i + 1 + 1)) (Refused 5 (i + 1)))
-      → with_pair s k (hex_pair s i) ≡ walk (pair_tree good f) s i
-  unfolding hex_pair wrong_at stop_at
+  pair_walk : (good : ℕ → Bool) (f : ℕ → Tree) (k : ℕ → Reading Step) (i : ℕ)
+      → ((v : ℕ) → k v ≡ cond (good v) (walk (f v) s (i + 1 + 1)) (Err (refusal LoneSurrogate (i + 1))))
+      → with_pair k (hex_pair s i) ≡ walk (pair_tree good f) s i
+  unfolding hex_pair refusal_at
   pair_walk good f k i h =
       let v = 16 * digit (byte_at s i) + digit (byte_at s (i + 1)) in
       by_test (hex (byte_at s i))
@@ -163,7 +168,7 @@ module _ (s : List ℕ) where
       (λ v. by_test (from_to 0xDC 0xDF v) (λ t. rw t) (λ t. rw (t, ← (plus_4 i)) (rest_walk i v))))
 
   escape_walk : (i : ℕ) → escape_at s i ≡ walk escape_tree s (i + 1)
-  unfolding escape_at wrong_at
+  unfolding escape_at
   escape_walk i =
       by_test (eqb (byte_at s (i + 1)) 0x75) (λ t. rw t (unicode_walk i))
       (λ t. by_test (eqb (escape_of (byte_at s (i + 1))) 0) (λ u. rw (t, u)) (λ u. rw (t, u, plus_2 i)))
@@ -180,7 +185,7 @@ module _ (s : List ℕ) where
   unfolding four_at
   four_walk i b = rw (plus_2 i, plus_3 i, plus_4 i)
 
-  pub char_quote : (i : ℕ) → byte_at s i ≡ 0x22 → char_at s i ≡ Quote
+  pub char_quote : (i : ℕ) → byte_at s i ≡ 0x22 → char_at s i ≡ Ok Quote
   unfolding char_at char_from
   char_quote i e = rw (eq-eqb _ _ e)
 
@@ -199,22 +204,22 @@ module _ (s : List ℕ) where
 
 -- ---- every test takes some byte, and none a 0
 
-code_least : (b : ℕ) → 3 ≤ code_of b
+code_least : (b : ℕ) → 3 ≤ number (code_of b)
 unfolding code_of
-code_least b = both (λ c. 3 ≤ c) (from_to 0x80 0xC1 b || leb 0xF5 b) (λ _. omega arith) (λ _. omega arith)
+code_least b = both (λ c. 3 ≤ number c) (from_to 0x80 0xC1 b || leb 0xF5 b) (λ _. omega arith) (λ _. omega arith)
 
 -- `0` is a digit, and where it is the second one the value has to be good
 pair_good : (good : ℕ → Bool) (f : ℕ → Tree) → ((a : ℕ) → good (16 * digit a + 0) ≡ true) → ((v : ℕ) → Good (f v)) → Good (pair_tree good f)
 unfolding digit
 pair_good good f some each =
-    let codes : (b : ℕ) → 3 ≤ cond (hex b) 5 (code_of b) = λ b. both (λ c. 3 ≤ c) (hex b) (λ _. omega arith) (λ _. code_least b) in
+    let codes : (b : ℕ) → 3 ≤ number (cond (hex b) LoneSurrogate (code_of b)) = λ b. both (λ c. 3 ≤ number c) (hex b) (λ _. omega arith) (λ _. code_least b) in
     (refl, 0x30, refl, λ a _. (refl, 0x30, some a, λ b _. each _, codes), code_least)
 
 -- it takes `\uDC` and two digits more
 partner_good : (high : ℕ) → Good (partner_tree high)
 unfolding digit
 partner_good high =
-    let codes : ℕ → 3 ≤ 5 = λ _. omega arith in
+    let codes : ℕ → 3 ≤ number LoneSurrogate = λ _. omega arith in
     let last : (d : ℕ) → Good (pair_tree any (joined_tree high (digit d))) = λ d. pair_good any (joined_tree high (digit d)) (λ a. refl) (λ v. tt) in
     (refl, 0x5C, refl, λ _ _. (refl, 0x75, refl, λ _ _. (refl, 0x44, refl, λ _ _. (refl, 0x43, refl, λ d _. last d, codes), codes), codes), codes)
 
@@ -245,7 +250,7 @@ second_zero b = rw (lt-leb (lowest b) 0 (omega (arith, lowest_least b)))
 after_good : (b : ℕ) → Good (after b)
 unfolding six_bits
 after_good b =
-    let codes : ℕ → 3 ≤ 4 = λ _. omega arith in
+    let codes : ℕ → 3 ≤ number NotUtf8 = λ _. omega arith in
     both Good (eqb b 0x5C) (λ _. escape_good)
     (λ _. both Good (ltb b 0x80) (λ _. tt)
     (λ _. both Good (ltb b 0xE0) (λ _. (refl, 0x80, refl, λ _ _. tt, codes))
@@ -253,4 +258,4 @@ after_good b =
     (λ _. (second_zero b, lowest b, second_lowest b, λ _ _. (refl, 0x80, refl, λ _ _. (refl, 0x80, refl, λ _ _. tt, codes), codes), codes)))))
 
 pub char_good : Good char_tree
-char_good = (refl, 0x61, refl, λ b _. after_good b, λ b. both (λ c. 3 ≤ c) (ltb b 0x20) (λ _. omega arith) (λ _. omega arith))
+char_good = (refl, 0x61, refl, λ b _. after_good b, λ b. both (λ c. 3 ≤ number c) (ltb b 0x20) (λ _. omega arith) (λ _. omega arith))

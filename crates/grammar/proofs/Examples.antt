@@ -12,6 +12,7 @@ use borrow.Author.Tests.{leb-true}
 use Rattle.model.specs.Text.{text}
 use Rattle.model.specs.Value.{Value, boolean, number, string, array, object, Values, vnil, vcons, Members, mnil, mcons}
 use Rattle.model.proofs.Basics.{never}
+use Rattle.chars.specs.declared.refusals.Code.TheVariants.{NotAllowed, LoneSurrogate, NameTwice, TooDeep}
 use Rattle.tokens.specs.Parse.{Parse, refused, parsed}
 use Rattle.syntax.specs.Tree.{Node}
 use Rattle.syntax.specs.Grammar.{read_text}
@@ -213,8 +214,11 @@ Breaks d before more = Begins d (text before) × (Begins d (text more) → ⊥)
 pub places : Breaks 0 "\"\\uD" "\"\\uDE" × Breaks 1 "[1," "[1,]" × Breaks 1 "{\"a\":1,\"\\u0061" "{\"a\":1,\"\\u0061\"" × Breaks 1 "[" "[["
 unfolding within
 places = (
-  (place_begins 999 0 (text "\"\\uDEAD\"") 5 4 refl (omega arith), place_ends 999 0 (text "\"\\uDEAD\"") 5 4 refl (omega arith)),
-  (place_begins 999 1 (text "[1,]") 3 3 refl (omega arith), place_ends 999 1 (text "[1,]") 3 3 refl (omega arith)),
-  (place_begins 999 1 (text "{\"a\":1,\"\\u0061\":2}") 6 14 refl (omega arith), place_ends 999 1 (text "{\"a\":1,\"\\u0061\":2}") 6 14 refl (omega arith)),
-  (place_begins 999 1 (text "[[") 7 1 refl (omega arith), place_ends 999 1 (text "[[") 7 1 refl (omega arith)),
+  (place_begins 999 0 (text "\"\\uDEAD\"") LoneSurrogate 4 refl (omega arith), place_ends 999 0 (text "\"\\uDEAD\"") LoneSurrogate 4 refl (omega arith)),
+  (place_begins 999 1 (text "[1,]") NotAllowed 3 refl (omega arith), place_ends 999 1 (text "[1,]") NotAllowed 3 refl (omega arith)),
+  (
+    place_begins 999 1 (text "{\"a\":1,\"\\u0061\":2}") NameTwice 14 refl (omega arith),
+    place_ends 999 1 (text "{\"a\":1,\"\\u0061\":2}") NameTwice 14 refl (omega arith),
+  ),
+  (place_begins 999 1 (text "[[") TooDeep 1 refl (omega arith), place_ends 999 1 (text "[[") TooDeep 1 refl (omega arith)),
 )

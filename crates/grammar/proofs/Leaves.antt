@@ -14,11 +14,12 @@ use Rattle.chars.specs.Bytes.{byte_at}
 use Rattle.tokens.specs.Parse.{Parse, refused, parsed, then, unexpected}
 use Rattle.tokens.specs.Space.{is_space}
 use Rattle.chars.specs.Strings.{string_at, part}
-use Rattle.tokens.specs.Tokens.{Kind, Null, False, True, Whole, Fractional, Quoted}
+use Rattle.tokens.specs.declared.tokens.Kind.{Kind}
+use Rattle.tokens.specs.declared.tokens.Kind.TheVariants.{Null, False, True, Whole, Fractional, Quoted}
 use Rattle.tokens.specs.Scalars.{first_of, word_at, quoted, scalar_by, scalar_at}
 use Rattle.tokens.specs.Spelling.{Spells}
-use Rattle.chars.specs.declared.strings.Scan.{Scan}
-use Rattle.chars.specs.declared.strings.Scan.TheVariants.{Ends, Stopped}
+use Rattle.std.specs.Prelude.{Ok, Err}
+use Rattle.chars.specs.Refusals.{Reading}
 use Rattle.tokens.specs.declared.scalars.First.{First}
 use Rattle.tokens.specs.declared.scalars.First.TheVariants.{Array, Object, Quote, Number, LetterN, LetterF, LetterT, Other}
 use Rattle.model.proofs.Basics.{both, and_ways}
@@ -52,9 +53,9 @@ word_refusals k (c ∷ w) s i t l =
     (λ _. unexpected_refusals Kind (IsWord (c ∷ w)) s i i (begun_none (IsWord (c ∷ w)) s i (c ∷ w) tt l refl)))
 
 module _ (s : List ℕ) (i : ℕ) (l : i ≤ length s) where
-  quoted_refusals : byte_at s i ≡ 0x22 → (x : Scan) → string_at s (i + 1) ≡ x → Refusals IsLeaf s i (quoted x)
-  quoted_refusals o (Ends e) q = tt
-  quoted_refusals o (Stopped c p) q =
+  quoted_refusals : byte_at s i ≡ 0x22 → (x : Reading ℕ) → string_at s (i + 1) ≡ x → Refusals IsLeaf s i (quoted x)
+  quoted_refusals o (Ok e) q = tt
+  quoted_refusals o (Err r) q =
       let m = in_text s i (omega arith) in
       let g = rw q at (string_sound s (i + 1) (omega arith)) in
       (begun_in (between_none s i) string (λ w vs h. h.0) (string_begun s i o g.0 0), g.1)

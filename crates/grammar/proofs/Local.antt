@@ -13,15 +13,17 @@ use Rattle.model.proofs.Basics.{by_test, both}
 use Rattle.chars.specs.Bytes.{byte_at}
 use Rattle.tokens.specs.Parse.{Parse, refused, parsed, then, unexpected}
 use Rattle.chars.specs.Runs.{run}
-use Rattle.chars.specs.Characters.{char_at, stop_at}
+use Rattle.chars.specs.Characters.{char_at, refusal_at, stop_at}
 use Rattle.chars.specs.Strings.{string_at, part}
-use Rattle.tokens.specs.Tokens.{Kind, Null, False, True, Whole, Fractional}
+use Rattle.tokens.specs.declared.tokens.Kind.{Kind}
+use Rattle.tokens.specs.declared.tokens.Kind.TheVariants.{Null, False, True, Whole, Fractional}
 use Rattle.tokens.specs.Numbers.{digits_end, whole_end, sign_end, power_at, exponent_at, fraction_at, unsigned_at, number_at}
 use Rattle.tokens.specs.Scalars.{first_of, word_at, quoted, scalar_by, scalar_at}
 use Rattle.chars.specs.declared.characters.Step.{Step}
-use Rattle.chars.specs.declared.characters.Step.TheVariants.{Char, Quote, Refused}
-use Rattle.chars.specs.declared.strings.Scan.{Scan}
-use Rattle.chars.specs.declared.strings.Scan.TheVariants.{Ends, Stopped}
+use Rattle.chars.specs.declared.characters.Step.TheVariants.{Char, Quote}
+use Rattle.std.specs.Prelude.{Ok, Err}
+use Rattle.chars.specs.Refusals.{refusal, Reading}
+use Rattle.chars.specs.declared.refusals.Code.{Code}
 use Rattle.tokens.specs.declared.scalars.First.{First}
 use Rattle.tokens.specs.declared.scalars.First.TheVariants.{Array, Object, Number, LetterN, LetterF, LetterT, Other, Quote as FirstQuote}
 use Rattle.chars.proofs.Facts.{in_text, run_next, run_stop, run-from, char_next, string_char, string_quote, string_stop}
@@ -169,24 +171,24 @@ module _ {s t : List ℕ} {m : ℕ} (g : Agree s t m) where
   -- ---- strings
 
   -- the last byte that a step looked at, besides the first
-  abbrev step_place : Step → ℕ
-  step_place (Char v j) = j - 1
-  step_place Quote = 0
-  step_place (Refused c p) = p
+  abbrev step_place : Reading Step → ℕ
+  step_place (Ok (Char v j)) = j - 1
+  step_place (Ok Quote) = 0
+  step_place (Err r) = r.place
 
-  step_from : (x : Tree) (i : ℕ) (o : Step) → Stepped x s (i + 1) o → step_place o < m → i < m
-  step_from x i (Char v j) b h = omega (arith, b.ahead)
-  step_from x i Quote b h = absurd b
-  step_from x i (Refused c p) b h = omega (arith, b.0.ahead)
+  step_from : (x : Tree) (i : ℕ) (o : Reading Step) → Stepped x s (i + 1) o → step_place o < m → i < m
+  step_from x i (Ok (Char v j)) b h = omega (arith, b.ahead)
+  step_from x i (Ok Quote) b h = absurd b
+  step_from x i (Err r) b h = omega (arith, b.0.ahead)
 
-  stops : (i c : ℕ) → i < m → stop_at t i c ≡ Refused c i
-  unfolding stop_at
+  stops : (i : ℕ) (c : Code) → i < m → stop_at {A = Step} t i c ≡ Err (refusal c i)
+  unfolding refusal_at
   stops i c h = rw (lt-ltb i (length t) (omega (arith, g.in_t)))
 
   walk_steady : (x : Tree) → Good x → (i : ℕ) → i ≤ length s → step_place (walk x s i) < m → walk x t i ≡ walk x s i
   walk_steady (give v) q i l = λ _. refl
   walk_steady (next p c f) q i l =
-      let P : Step → Type 0 = λ o. step_place o < m → walk (next p c f) t i ≡ o in
+      let P : Reading Step → Type 0 = λ o. step_place o < m → walk (next p c f) t i ≡ o in
       both P (p (byte_at s i))
       (λ u h. let n = passes_in p q.0 s i u in
       let y = q.3 (byte_at s i) u in
@@ -195,13 +197,13 @@ module _ {s t : List ℕ} {m : ℕ} (g : Agree s t m) where
       (λ u. stop_ways P s i (c (byte_at s i)) (λ n h. rw (g.bytes i h, u) (stops i (c (byte_at s i)) h)) (λ n h. absurd (omega (arith, g.in_s))))
 
   -- the last byte that a string looked at
-  abbrev pub scan_place : Scan → ℕ
-  scan_place (Ends e) = e - 1
-  scan_place (Stopped c p) = p
+  abbrev pub scan_place : Reading ℕ → ℕ
+  scan_place (Ok e) = e - 1
+  scan_place (Err r) = r.place
 
-  scan_from : (j : ℕ) (x : Scan) → Scanned s j x → scan_place x < m → j < m
-  scan_from j (Ends e) b h = omega (arith, b.ahead)
-  scan_from j (Stopped c p) b h = omega (arith, b.0.ahead)
+  scan_from : (j : ℕ) (x : Reading ℕ) → Scanned s j x → scan_place x < m → j < m
+  scan_from j (Ok e) b h = omega (arith, b.ahead)
+  scan_from j (Err r) b h = omega (arith, b.0.ahead)
 
   string_reach : (j : ℕ) → j ≤ length s → scan_place (string_at s j) < m → j < m
   string_reach j l = scan_from j (string_at s j) (string_sound s j l)
@@ -219,18 +221,18 @@ module _ {s t : List ℕ} {m : ℕ} (g : Agree s t m) where
   string-from zero i l f h = absurd (omega arith)
   string-from (suc k) i l f h = go (λ j. string-from k j) (char_at s i) refl
     where
-      same : (o : Step) → char_at s i ≡ o → step_place o < m → char_at t i ≡ o
+      same : (o : Reading Step) → char_at s i ≡ o → step_place o < m → char_at t i ≡ o
       same o q p = char_steady i (string_reach i l h) (rw q p) ∙ q
 
-      go : ((j : ℕ) → j ≤ length s → length s < j + k → scan_place (string_at s j) < m → string_at t j ≡ string_at s j) → (o : Step) → char_at s i ≡ o
+      go : ((j : ℕ) → j ≤ length s → length s < j + k → scan_place (string_at s j) < m → string_at t j ≡ string_at s j) → (o : Reading Step) → char_at s i ≡ o
           → string_at t i ≡ string_at s i
-      go rec (Char v j) q =
+      go rec (Ok (Char v j)) q =
           let b = char_next s i v j q in
           let h₂ : scan_place (string_at s j) < m = rw (string_char s i v j q) at h in
           let jm = string_reach j b.1 h₂ in
-          string_char t i v j (same (Char v j) q (omega arith)) ∙ rec j b.1 (omega arith) h₂ ∙ sym (string_char s i v j q)
-      go rec Quote q = string_quote t i (same Quote q (omega (arith, string_reach i l h))) ∙ sym (string_quote s i q)
-      go rec (Refused d p) q = string_stop t i d p (same (Refused d p) q (rw (string_stop s i d p q) at h)) ∙ sym (string_stop s i d p q)
+          string_char t i v j (same (Ok (Char v j)) q (omega arith)) ∙ rec j b.1 (omega arith) h₂ ∙ sym (string_char s i v j q)
+      go rec (Ok Quote) q = string_quote t i (same (Ok Quote) q (omega (arith, string_reach i l h))) ∙ sym (string_quote s i q)
+      go rec (Err e) q = string_stop t i e (same (Err e) q (rw (string_stop s i e q) at h)) ∙ sym (string_stop s i e q)
 
   pub string_steady : (i : ℕ) → i ≤ length s → scan_place (string_at s i) < m → string_at t i ≡ string_at s i
   string_steady i l = string-from (suc (length s)) i l (omega arith)
@@ -243,9 +245,9 @@ module _ {s t : List ℕ} {m : ℕ} (g : Agree s t m) where
       let r = go (string_at s (i + 1)) (string_sound s (i + 1) l) h in
       (r.0, ap quoted (string_steady (i + 1) l r.1))
     where
-      go : (x : Scan) → Scanned s (i + 1) x → place (quoted x) < m → (i < m) × (scan_place x < m)
-      go (Ends e) b h = omega (arith, b.ahead)
-      go (Stopped c p) b h = omega (arith, b.0.ahead)
+      go : (x : Reading ℕ) → Scanned s (i + 1) x → place (quoted x) < m → (i < m) × (scan_place x < m)
+      go (Ok e) b h = omega (arith, b.ahead)
+      go (Err r) b h = omega (arith, b.0.ahead)
 
   by_first : (f : First) (i : ℕ) → FirstIs (byte_at s i) f → Local m i (scalar_by f s i) (scalar_by f t i)
   by_first FirstQuote i b = quoted_local i b

@@ -13,8 +13,8 @@ use Rattle.tokens.specs.Parse.{Parse, refused, parsed, then}
 use Rattle.tokens.specs.Space.{is_space, skip}
 use Rattle.chars.specs.Strings.{string_at, characters}
 use Rattle.tokens.specs.Scalars.{first_of, scalar_at}
-use Rattle.chars.specs.declared.strings.Scan.{Scan}
-use Rattle.chars.specs.declared.strings.Scan.TheVariants.{Ends, Stopped}
+use Rattle.std.specs.Prelude.{Ok, Err}
+use Rattle.chars.specs.Refusals.{Reading}
 use Rattle.tokens.specs.declared.scalars.First.{First}
 use Rattle.tokens.specs.declared.scalars.First.TheVariants.{Array, Object, Quote, Number, LetterN, LetterF, LetterT, Other}
 use Rattle.chars.proofs.Facts.{in_text, run-from, run_within, string_close}
@@ -27,6 +27,7 @@ use Rattle.grammar.proofs.Strings.{Scanned, string_sound}
 use Rattle.grammar.proofs.Members.{no_quote}
 use Rattle.grammar.proofs.Local.{Agree, place, Steady, Local, LocalIf, then_local, unexpected_local, part_steady, runs, string_steady}
 use Rattle.grammar.proofs.Local.{scalar_local}
+use Rattle.chars.specs.declared.refusals.Code.TheVariants.{TooDeep}
 
 -- ---- lists
 
@@ -114,8 +115,8 @@ module _ {s t : List ℕ} {m : ℕ} (g : Agree s t m) where
       MemberLocal = LocalIf (Known m before) m i (member_at v s before i) (member_at v₂ t before i)
 
       -- behind a name from i up to e, which the other text has too
-      colon : byte_at s i ≡ 0x22 → (e : ℕ) → string_at s (i + 1) ≡ Ends e → repeated s before (name_of s i e) ≡ false
-          → (Known m before → e ≤ m → (byte_at t i ≡ 0x22) × (string_at t (i + 1) ≡ Ends e) × (repeated t before (name_of t i e) ≡ false)) → MemberLocal
+      colon : byte_at s i ≡ 0x22 → (e : ℕ) → string_at s (i + 1) ≡ Ok e → repeated s before (name_of s i e) ≡ false
+          → (Known m before → e ≤ m → (byte_at t i ≡ 0x22) × (string_at t (i + 1) ≡ Ok e) × (repeated t before (name_of t i e) ≡ false)) → MemberLocal
       colon o e q n other =
           let b = string_close s (i + 1) e q in
           let j : ℕ = skip s e in
@@ -153,14 +154,14 @@ module _ {s t : List ℕ} {m : ℕ} (g : Agree s t m) where
           (λ h. let y = unexpected_local g Members i h in
           (y.0, λ _. no_quote v₂ t before i (λ c. n (sym (g.bytes i y.0) ∙ c)) ∙ y.1)))
         where
-          quote : byte_at s i ≡ 0x22 → i + 1 ≤ length s → (x : Scan) → string_at s (i + 1) ≡ x → Scanned s (i + 1) x → MemberLocal
-          quote o il (Stopped c p) q b =
+          quote : byte_at s i ≡ 0x22 → i + 1 ≤ length s → (x : Reading ℕ) → string_at s (i + 1) ≡ x → Scanned s (i + 1) x → MemberLocal
+          quote o il (Err r) q b =
               rw (name_stopped s before i o q)
               (λ h. let im : i < m = omega (arith, b.0.ahead) in
               (im, λ _. rw (name_stopped t before i (g.bytes i im ∙ o) (string_steady g (i + 1) il (rw q h) ∙ q))))
-          quote o il (Ends e) q b =
+          quote o il (Ok e) q b =
               let w = string_close s (i + 1) e q in
-              let other : e ≤ m → (byte_at t i ≡ 0x22) × (string_at t (i + 1) ≡ Ends e) × (name_of t i e ≡ name_of s i e) =
+              let other : e ≤ m → (byte_at t i ≡ 0x22) × (string_at t (i + 1) ≡ Ok e) × (name_of t i e ≡ name_of s i e) =
               λ h. (g.bytes i (omega arith) ∙ o, string_steady g (i + 1) il (rw q (omega arith)) ∙ q, name_same i e (omega arith) h) in
               by_test (repeated s before (name_of s i e))
               (λ u. rw (name_again s before i o q u)
@@ -203,7 +204,7 @@ module _ {s t : List ℕ} {m : ℕ} (g : Agree s t m) where
   value_local : (d i : ℕ) → i ≤ length s → Local m i (value_at d s i) (value_at d t i)
   unfolding value_at
   value_local zero i l h =
-      let x = by_first i (λ j. refused 7 j) (λ j. refused 7 j) (λ j. refused 7 j) (λ j. refused 7 j) (first_of (byte_at s i)) (λ _ b. (b, refl))
+      let x = by_first i (λ j. refused TooDeep j) (λ j. refused TooDeep j) (λ j. refused TooDeep j) (λ j. refused TooDeep j) (first_of (byte_at s i)) (λ _ b. (b, refl))
       (λ _ b. (b, refl)) h in
       (x.0, rw (g.bytes i x.0) x.1)
   value_local (suc d) i l h =

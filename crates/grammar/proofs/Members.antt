@@ -15,8 +15,8 @@ use Rattle.chars.specs.Bytes.{byte_at}
 use Rattle.tokens.specs.Parse.{Parse, parsed, then, unexpected}
 use Rattle.tokens.specs.Space.{is_space, skip}
 use Rattle.chars.specs.Strings.{string_at, part}
-use Rattle.chars.specs.declared.strings.Scan.{Scan}
-use Rattle.chars.specs.declared.strings.Scan.TheVariants.{Ends, Stopped}
+use Rattle.std.specs.Prelude.{Ok, Err}
+use Rattle.chars.specs.Refusals.{Reading}
 use Rattle.chars.proofs.Facts.{in_text, string_close}
 use Rattle.syntax.specs.Tree.{Node, Nodes, none, more, add_node, no_member, member, Members as NodeMembers, add_member as addNodeMember}
 use Rattle.syntax.specs.Grammar.{name_of, repeated, member_at}
@@ -114,7 +114,7 @@ module _ (s : List ℕ) (IsItem : Language Value) (is-null : IsItem (text "null"
       (λ w us h. with_null w [] us h.0 (long_differs (members_of s before) us h.1) refl) (string_begun s i o b enough)
 
   -- behind a name from i up to e
-  module _ (o : byte_at s i ≡ 0x22) (e : ℕ) (q : string_at s (i + 1) ≡ Ends e) (n : repeated s before (name_of s i e) ≡ false) where
+  module _ (o : byte_at s i ≡ 0x22) (e : ℕ) (q : string_at s (i + 1) ≡ Ok e) (n : repeated s before (name_of s i e) ≡ false) where
     abbrev j : ℕ
     j = skip s e
 
@@ -163,9 +163,9 @@ module _ (s : List ℕ) (IsItem : Language Value) (is-null : IsItem (text "null"
       let l = in_text s i (omega arith) in go o (string_at s (i + 1)) refl (string_sound s (i + 1) (omega arith)))
       (λ t. rw (no_quote v s before i (eqb-false _ _ t)) (unexpected_sound X (members_of s) s i i bare_begun))
     where
-      go : byte_at s i ≡ 0x22 → (x : Scan) → string_at s (i + 1) ≡ x → Scanned s (i + 1) x → Sound X (members_of s) s i (member_at v s before i)
-      go o (Stopped c p) q g = rw (name_stopped s before i o q) (broken_begun o g.0, g.1)
-      go o (Ends e) q g =
+      go : byte_at s i ≡ 0x22 → (x : Reading ℕ) → string_at s (i + 1) ≡ x → Scanned s (i + 1) x → Sound X (members_of s) s i (member_at v s before i)
+      go o (Err r) q g = rw (name_stopped s before i o q) (broken_begun o g.0, g.1)
+      go o (Ok e) q g =
           let b = string_close s (i + 1) e q in
           by_test (repeated s before (name_of s i e))
           (λ t. rw (name_again s before i o q t) (broken_begun o (spelled_begun g), inr (omega arith, omega arith)))

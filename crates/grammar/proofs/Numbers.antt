@@ -15,7 +15,8 @@ use Rattle.chars.specs.Bytes.{byte_at}
 use Rattle.tokens.specs.Parse.{Parse, parsed}
 use Rattle.chars.specs.Runs.{run}
 use Rattle.chars.specs.Strings.{part}
-use Rattle.tokens.specs.Tokens.{Kind, Whole, Fractional}
+use Rattle.tokens.specs.declared.tokens.Kind.{Kind}
+use Rattle.tokens.specs.declared.tokens.Kind.TheVariants.{Whole, Fractional}
 use Rattle.tokens.specs.Numbers.{digits_end, whole_end, sign_end, power_at, exponent_at, fraction_at, unsigned_at, number_at}
 use Rattle.chars.proofs.Facts.{in_text, run_next, run_stop}
 use Rattle.tokens.proofs.Facts.{sign_least, whole_some, digits_piece, whole_piece, Minus, part_none, part_cons, part_one, run_some}

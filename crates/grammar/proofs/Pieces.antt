@@ -12,6 +12,8 @@ use borrow.Author.Tests.{ltb-true, ltb-false}
 use Rattle.model.specs.Text.{all}
 use Rattle.model.specs.Value.{is_digit}
 use Rattle.chars.specs.Bytes.{byte_at}
+use Rattle.chars.specs.Refusals.{number}
+use Rattle.chars.specs.declared.refusals.Code.{Code}
 use Rattle.tokens.specs.Parse.{Parse, refused, parsed, then, unexpected}
 use Rattle.chars.specs.Strings.{part}
 use Rattle.tokens.specs.Space.{is_space, skip}
@@ -101,8 +103,8 @@ pub record Begun {A : Type 0} (X : Language A) (s : List ℕ) (i p : ℕ) : Type
   pub spells : X (part s i p ++ rest) thing
 
 -- code 2 stands at the end of the text, and any other at a byte of it
-abbrev pub Stop : List ℕ → ℕ → ℕ → Type 0
-Stop s c p = ((c ≡ 2) × (p ≡ length s)) ⊎ ((3 ≤ c) × (p < length s))
+abbrev pub Stop : List ℕ → Code → ℕ → Type 0
+Stop s c p = ((number c ≡ 2) × (p ≡ length s)) ⊎ ((3 ≤ number c) × (p < length s))
 
 -- of an outcome at i: a refusal stands at p where X is begun up to p, and what was read is as P says
 abbrev pub Outcome : {N A : Type 0} → Language A → (N → ℕ → Type 0) → List ℕ → ℕ → Parse N → Type 0

@@ -8,12 +8,14 @@ use lib.ListN.{length, take, length-take}
 use lib.Seq.{length-take-le, get_or-take, take_at}
 use Rattle.model.proofs.Basics.{never}
 use Rattle.chars.specs.Bytes.{byte_at}
+use Rattle.chars.specs.Refusals.{number}
+use Rattle.chars.specs.declared.refusals.Code.{Code}
 use Rattle.tokens.specs.Parse.{refused, parsed}
 use Rattle.syntax.specs.Grammar.{whole_at, read_text}
 use Rattle.grammar.specs.Written.{Begins}
 use Rattle.grammar.proofs.Pieces.{Stop}
 use Rattle.grammar.proofs.TrimmedTexts.{text_trim, text_spread}
-use Rattle.grammar.proofs.Texts.{short_whole, not_long, refused_begins, refused_stands, trimmed_reads}
+use Rattle.grammar.proofs.Texts.{short_whole, refused_whole, refused_begins, refused_stands, trimmed_reads}
 use Rattle.grammar.proofs.Local.{Agree}
 use Rattle.grammar.proofs.LocalTexts.{text_steady}
 
@@ -25,32 +27,32 @@ agree_take s t m h e = record {
   bytes = λ j k. sym (get_or-take m t j 0 k) ∙ ap (λ (w : List ℕ). byte_at w j) e ∙ get_or-take m s j 0 k;
 }
 
-module _ (bytes d : ℕ) (s : List ℕ) (c p : ℕ) (q : read_text bytes d s ≡ refused c p) where
-  module _ (l : 2 ≤ c) where
+module _ (bytes d : ℕ) (s : List ℕ) (c : Code) (p : ℕ) (q : read_text bytes d s ≡ refused c p) where
+  module _ (l : 2 ≤ number c) where
     whole : whole_at d s ≡ refused c p
-    whole = sym (short_whole d s bytes (not_long d s bytes (refused c p) q (λ z. let y : c ≡ 1 = cc in omega arith))) ∙ q
+    whole = refused_whole d s bytes c p l q
 
     stands : Stop s c p
     stands = refused_stands d s bytes c p l q
 
     -- code 2 stands at the end of the text
-    pub end_place : c ≡ 2 → p ≡ length s
+    pub end_place : number c ≡ 2 → p ≡ length s
     end_place e = ⊎_elim (λ h. h.1) (λ h. absurd (omega (arith, h.0))) stands
 
     -- any other at a byte of it
-    pub byte_place : 3 ≤ c → p < length s
+    pub byte_place : 3 ≤ number c → p < length s
     byte_place h = ⊎_elim (λ x. absurd (omega (arith, x.0))) (λ x. x.1) stands
 
   -- the first p bytes begin a text
-  pub place_begins : 2 ≤ c → Begins d (take p s)
+  pub place_begins : 2 ≤ number c → Begins d (take p s)
   place_begins l = let b = refused_begins d s bytes c p l q in record { rest = b.0; value = b.1; spells = text_spread b.2 }
 
   -- a text with the same bytes up to p is refused alike
-  pub place_alike : 3 ≤ c → (t : List ℕ) → Agree s t (p + 1) → whole_at d t ≡ refused c p
-  place_alike l t g = let h : 2 ≤ c = omega arith in text_steady g d (rw (whole h) (omega arith)) ∙ whole h
+  pub place_alike : 3 ≤ number c → (t : List ℕ) → Agree s t (p + 1) → whole_at d t ≡ refused c p
+  place_alike l t g = let h : 2 ≤ number c = omega arith in text_steady g d (rw (whole h) (omega arith)) ∙ whole h
 
   -- one byte more begins none
-  pub place_ends : 3 ≤ c → Begins d (take (p + 1) s) → ⊥
+  pub place_ends : 3 ≤ number c → Begins d (take (p + 1) s) → ⊥
   place_ends l b =
       let t = take (p + 1) s ++ b.rest in
       let x = trimmed_reads d t (length t) b.value (text_trim b.spells) (omega arith) in

@@ -12,6 +12,8 @@ use Rattle.model.specs.Value.{Value}
 use Rattle.model.specs.Text.{all as every}
 use Rattle.model.proofs.Basics.{never, by_test, both, and_ways}
 use Rattle.chars.specs.Bytes.{byte_at}
+use Rattle.chars.specs.Refusals.{number}
+use Rattle.chars.specs.declared.refusals.Code.{Code}
 use Rattle.tokens.specs.Parse.{Parse, refused, parsed, then}
 use Rattle.tokens.specs.Space.{is_space, skip}
 use Rattle.chars.specs.Strings.{part}
@@ -25,6 +27,7 @@ use Rattle.grammar.proofs.Pieces.{At, at_first, at_second, at_behind, between, b
 use Rattle.grammar.proofs.Pieces.{begun_more, spelled_in, Space, spaced, space_spelled, Follow}
 use Rattle.grammar.proofs.Series.{space_follow, skip_reads}
 use Rattle.grammar.proofs.Values.{value_sound, value_first, value_reads}
+use Rattle.chars.specs.declared.refusals.Code.TheVariants.{TooLong}
 
 -- space up to the end of the text
 behind : (s b : List ℕ) (e : ℕ) → IsSpace b → At s e b → e + length b ≡ length s → Follow (byte_at s e) × (skip s e ≡ length s)
@@ -75,7 +78,7 @@ module _ (d : ℕ) (s : List ℕ) where
     unfolding read_text
     short_whole h = rw (le-ltb bytes (length s) h)
 
-    pub not_long : (o : Parse Node) → read_text bytes d s ≡ o → (o ≡ refused 1 bytes → ⊥) → length s ≤ bytes
+    not_long : (o : Parse Node) → read_text bytes d s ≡ o → (o ≡ refused TooLong bytes → ⊥) → length s ≤ bytes
     unfolding read_text
     not_long o q n = by_test (ltb bytes (length s)) (λ t. absurd (n (sym q ∙ rw t))) (λ t. ltb-false bytes (length s) t)
 
@@ -87,20 +90,22 @@ module _ (d : ℕ) (s : List ℕ) where
         let z : e ≡ length s = read_whole bytes d s n e q in
         subst (λ (w : List ℕ). TrimmedText d w (value_of s n)) (from_start e ∙ take_all e s (omega arith)) g.spells
 
+    -- a refusal with a code above 1 is that of the whole text
+    pub refused_whole : (c : Code) (p : ℕ) → 2 ≤ number c → read_text bytes d s ≡ refused c p → whole_at d s ≡ refused c p
+    refused_whole c p l q =
+        sym (short_whole (not_long (refused c p) q (λ z. let w : c ≡ TooLong = cc in let y : number c ≡ 1 = ap number w in omega arith))) ∙ q
+
     -- what stands before the place of a refusal begins a text
-    pub refused_begins : (c p : ℕ) → 2 ≤ c → read_text bytes d s ≡ refused c p → (rest : List ℕ) × (v : Value) × TrimmedText d (take p s ++ rest) v
+    pub refused_begins : (c : Code) (p : ℕ) → 2 ≤ number c → read_text bytes d s ≡ refused c p
+        → (rest : List ℕ) × (v : Value) × TrimmedText d (take p s ++ rest) v
     refused_begins c p l q =
-        let h = not_long (refused c p) q (λ z. let y : c ≡ 1 = cc in omega arith) in
-        let x : Begun (TrimmedText d) s 0 p × Stop s c p = rw (sym (short_whole h) ∙ q) at whole_sound in
+        let x : Begun (TrimmedText d) s 0 p × Stop s c p = rw (refused_whole c p l q) at whole_sound in
         let g = x.0 in
         (g.rest, g.thing, subst (λ (w : List ℕ). TrimmedText d (w ++ g.rest) g.thing) (from_start p) g.spells)
 
     -- code 2 stands at the end of the text, and any other at a byte of it
-    pub refused_stands : (c p : ℕ) → 2 ≤ c → read_text bytes d s ≡ refused c p → Stop s c p
-    refused_stands c p l q =
-        let h = not_long (refused c p) q (λ z. let y : c ≡ 1 = cc in omega arith) in
-        let x : Begun (TrimmedText d) s 0 p × Stop s c p = rw (sym (short_whole h) ∙ q) at whole_sound in
-        x.1
+    pub refused_stands : (c : Code) (p : ℕ) → 2 ≤ number c → read_text bytes d s ≡ refused c p → Stop s c p
+    refused_stands c p l q = let x : Begun (TrimmedText d) s 0 p × Stop s c p = rw (refused_whole c p l q) at whole_sound in x.1
 
     -- ---- what is spelled so
 

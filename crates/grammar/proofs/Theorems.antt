@@ -8,6 +8,8 @@ use lib.ListN.{length, take}
 use lib.Dec.{ltb}
 use Rattle.model.specs.Text.{all}
 use Rattle.model.specs.Value.{Value, IsJson}
+use Rattle.chars.specs.Refusals.{number}
+use Rattle.chars.specs.declared.refusals.Code.{Code}
 use Rattle.tokens.specs.Parse.{Parse, refused, parsed}
 use Rattle.syntax.specs.Tree.{Node}
 use Rattle.syntax.specs.Grammar.{read_text}
@@ -71,16 +73,17 @@ module _ (l : Limits) (which w : ℕ) (s : List ℕ) where
       sound (parsed n e) q h = (read_short (bytes_within l) (depth_within l) s n e q, (value_of s n, reads_written (bytes_within l) (depth_within l) s n e q))
 
   -- the refusal that an answer from 2 to 7 gives
-  refusal : 2 ≤ answered.code → answered.code ≤ 7 → read_text (bytes_within l) (depth_within l) s ≡ refused answered.code answered.place
+  refusal : 2 ≤ answered.code → answered.code ≤ 7
+      → (c : Code) × (number c ≡ answered.code) × (read_text (bytes_within l) (depth_within l) s ≡ refused c answered.place)
   refusal = answer_refused which w (read_within l s)
 
   -- L14: what its place means
   pub place_means : PlaceMeans l s (answer_of which w (read_within l s))
   place_means = record {
-    begins = λ m h. place_begins (bytes_within l) (depth_within l) s _ _ (refusal m h) m;
-    ends = λ m h. place_ends (bytes_within l) (depth_within l) s _ _ (refusal (omega arith) h) m;
-    at_end = λ e. end_place (bytes_within l) (depth_within l) s _ _ (refusal (omega arith) (omega arith)) (omega arith) e;
-    at_byte = λ m h. byte_place (bytes_within l) (depth_within l) s _ _ (refusal (omega arith) h) (omega arith) m;
+    begins = λ m h. let r = refusal m h in place_begins (bytes_within l) (depth_within l) s r.0 _ r.2 (omega (arith, r.1));
+    ends = λ m h. let r = refusal (omega arith) h in place_ends (bytes_within l) (depth_within l) s r.0 _ r.2 (omega (arith, r.1));
+    at_end = λ e. let r = refusal (omega arith) (omega arith) in end_place (bytes_within l) (depth_within l) s r.0 _ r.2 (omega (arith, r.1)) (r.1 ∙ e);
+    at_byte = λ m h. let r = refusal (omega arith) h in byte_place (bytes_within l) (depth_within l) s r.0 _ r.2 (omega (arith, r.1)) (omega (arith, r.1));
   }
 
   -- a text with the same bytes up to the place of a refusal with 3 to 7 is refused alike, unless it is too long
@@ -88,10 +91,11 @@ module _ (l : Limits) (which w : ℕ) (s : List ℕ) where
       → length t ≤ bytes_within l
       → answer_of which w (read_within l t) ≡ answered
   refused_alike t m h e k =
-      let q = refusal (omega arith) h in
-      let i = byte_place (bytes_within l) (depth_within l) s _ _ q (omega arith) m in
+      let r = refusal (omega arith) h in
+      let above : 3 ≤ number r.0 = omega (arith, r.1) in
+      let i = byte_place (bytes_within l) (depth_within l) s r.0 _ r.2 (omega arith) above in
       let g = agree_take s t (answered.place + 1) (omega arith) e in
-      ap (answer_of which w) (short_whole (depth_within l) t (bytes_within l) k ∙ place_alike (bytes_within l) (depth_within l) s _ _ q m t g ∙ sym q)
+      ap (answer_of which w) (short_whole (depth_within l) t (bytes_within l) k ∙ place_alike (bytes_within l) (depth_within l) s r.0 _ r.2 above t g ∙ sym r.2)
 
 -- by a document's limits, as Read has it
 pub document_places : (w : ℕ) (s : List ℕ) → PlaceMeans document_limits s (answer_of 1 w (read_within document_limits s))

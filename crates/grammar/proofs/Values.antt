@@ -26,6 +26,7 @@ use Rattle.grammar.proofs.Pieces.{At, between_none, Begun, Stop, Sound, begun_no
 use Rattle.grammar.proofs.Leaves.{leaf_sound, LeafRead, leaf_reads, leaf_first}
 use Rattle.grammar.proofs.Series.{list_sound, list_reads}
 use Rattle.grammar.proofs.Members.{values_add, member_sound, member_reads, member_first}
+use Rattle.chars.specs.declared.refusals.Code.TheVariants.{TooDeep}
 
 -- a leaf is a value
 leaf_value : (d : ℕ) (w : List ℕ) (v : Value) → IsLeaf w v → TrimmedValue d w v
@@ -55,7 +56,7 @@ module _ (s : List ℕ) where
   by_sound d i a o l Other q g h = leaf_sound_as d i l
 
   -- one bracket too many: another value can stand there
-  too_deep : (d i : ℕ) → i < length s → Begun (TrimmedValue d) s i i × Stop s 7 i
+  too_deep : (d i : ℕ) → i < length s → Begun (TrimmedValue d) s i i × Stop s TooDeep i
   too_deep d i l = (begun_none (TrimmedValue d) s i (text "null") null (omega arith) (leaf_value d (text "null") null refl), inr (omega arith, l))
 
   element_sound : (d : ℕ) (v : ℕ → Parse Node) → ((i : ℕ) → i ≤ length s → IsSound d i (v i)) → (before : Nodes) (i : ℕ) → i ≤ length s
@@ -68,7 +69,7 @@ module _ (s : List ℕ) where
   pub value_sound : (d i : ℕ) → i ≤ length s → Sound (TrimmedValue d) (value_of s) s i (value_at d s i)
   unfolding value_at TrimmedValue
   value_sound zero i l =
-      by_sound zero i (λ j. refused 7 j) (λ j. refused 7 j) l (first_of (byte_at s i)) refl (λ q. too_deep zero i (in_text s i (omega arith)))
+      by_sound zero i (λ j. refused TooDeep j) (λ j. refused TooDeep j) l (first_of (byte_at s i)) refl (λ q. too_deep zero i (in_text s i (omega arith)))
       (λ q. too_deep zero i (in_text s i (omega arith)))
   value_sound (suc d) i l =
       by_sound (suc d) i (λ j. array_at (value_at d s) s j) (λ j. object_at (value_at d s) s j) l (first_of (byte_at s i)) refl

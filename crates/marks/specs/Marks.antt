@@ -1,5 +1,7 @@
 -- For private contracts: the entries of a text as the first pass keeps them, a word for each, until the table may be written.
 use Rattle.std.specs.Prelude.{ℕ, ◌+◌, ◌-◌, ◌*◌, ◌/◌, ◌%◌, Bool, cond, List, [], ◌∷◌, eqb, ltb}
+use Rattle.marks.specs.declared.marks.Branch.{Branch}
+use Rattle.marks.specs.declared.marks.Branch.TheVariants.{Array, Object}
 use Rattle.syntax.specs.Rows.{Entry, entry}
 use Rattle.marks.specs.Packing.{packed, first_in, second_in, third_in, fourth_in}
 
@@ -7,7 +9,12 @@ use Rattle.marks.specs.Packing.{packed, first_in, second_in, third_in, fourth_in
 abbrev pub leaf_mark : ℕ → ℕ → ℕ → ℕ
 leaf_mark k f e = packed f (e - 1) 0 k
 
--- an array (o is 0) or an object (1): its first byte, its last, its rows, and its children in front of o
+-- an array is 0 in a mark, and an object 1
+abbrev pub branch_number : Branch → ℕ
+branch_number Array = 0
+branch_number Object = 1
+
+-- an array or an object (o is its number): its first byte, its last, its rows, and its children in front of o
 abbrev pub list_mark : ℕ → ℕ → ℕ → ℕ → ℕ → ℕ
 list_mark o f e children rows = packed f (e - 1) rows (2 * children + o)
 

@@ -1,11 +1,11 @@
 -- For private contracts: the names among the marks, by which the first pass finds a repeated one, and their index by hash.
 use Rattle.std.specs.Prelude.{ℕ, ◌+◌, ◌*◌, ◌/◌, ◌%◌, ◌≤◌, ◌<◌, ◌≡◌, Bool, true, false, ◌&&◌, List, length, get_or, eqb}
 use Rattle.model.specs.Text.{same}
-use Rattle.tokens.specs.Parse.{Parse, refused, parsed}
-use Rattle.tokens.specs.Tokens.{Kind}
+use Rattle.tokens.specs.Parse.{Parse, reading_of}
+use Rattle.tokens.specs.declared.tokens.Kind.{Kind}
 use Rattle.chars.specs.declared.hashing.Hashed.{Hashed}
-use Rattle.chars.specs.declared.hashing.Hashed.TheVariants.{Name, Broken}
-use Rattle.chars.specs.Hashing.{hash_of, last_passing}
+use Rattle.chars.specs.Refusals.{Reading}
+use Rattle.chars.specs.Hashing.{hash_of, hashed, last_passing}
 use Rattle.syntax.specs.Tree.{Members, no_member, member}
 use Rattle.syntax.specs.Rows.{size, sizes_members}
 use Rattle.syntax.specs.Grammar.{name_of, name_at}
@@ -103,10 +103,9 @@ pub record NameReady (s hs ms : List ℕ) (o : ℕ) : Type 0 where
   pub fresh : Fresh ms (o + 1 + sizes_members before)
 
 -- what is told of a name that was read
-abbrev pub hashed_of : List ℕ → ℕ → ℕ → Parse Kind → Hashed
-hashed_of s o i (refused c p) = Broken c p
-hashed_of s o i (parsed k e) = Name e (own_hash o (name_of s i e))
+abbrev pub hashed_of : List ℕ → ℕ → ℕ → Parse Kind → Reading Hashed
+hashed_of s o i r = reading_of (λ k e. hashed e (own_hash o (name_of s i e))) r
 
 -- the name at a place, behind the members that the marks hold
-pub record NameTold (s ms : List ℕ) (o i : ℕ) (r : Hashed) : Type 0 where
+pub record NameTold (s ms : List ℕ) (o i : ℕ) (r : Reading Hashed) : Type 0 where
   pub tells : (before : Members) → Kept s o ms (o + 1) before → Fresh ms (o + 1 + sizes_members before) → r ≡ hashed_of s o i (name_at s before i)

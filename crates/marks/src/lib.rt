@@ -7,5 +7,5 @@ mod names;
 mod packing;
 
 pub use filling::fill;
-pub use marks::{leaf_mark, list_mark};
+pub use marks::{Branch, leaf_mark, list_mark};
 pub use names::{name, push};

@@ -1,6 +1,6 @@
 // The rows of a text as the first pass keeps them, a word for each.
 ghost use Rattle.std.specs.Prelude.{◌≡◌, ◌+◌, ◌*◌, ◌≤◌, ◌<◌};
-ghost use Rattle.marks.specs.Marks.{leaf_mark, list_mark};
+ghost use Rattle.marks.specs.Marks.{leaf_mark, list_mark, branch_number};
 
 use crate::packing::pack;
 
@@ -12,10 +12,21 @@ pub fn leaf_mark(kind: u32, first: usize, end: usize) -> u64
     pack(first, end - 1, 0, kind as usize)
 }
 
-// An array, of which `object` is 0, or an object, of which it is 1.
-pub fn list_mark(object: usize, first: usize, end: usize, children: usize, rows: usize) -> u64
-    requires { (first < end) × (end ≤ 65536) × (2 * children + object < 65536) × (rows < 65536) }
-    ensures { result ≡ list_mark object first end children rows }
+// A value that holds others.
+#[derive(Clone, Copy, Debug, PartialEq, Eq)]
+pub enum Branch {
+    Array,
+    Object,
+}
+
+// The mark of an array or an object.
+pub fn list_mark(branch: Branch, first: usize, end: usize, children: usize, rows: usize) -> u64
+    requires { (first < end) × (end ≤ 65536) × (2 * children + branch_number branch < 65536) × (rows < 65536) }
+    ensures { result ≡ list_mark (branch_number branch) first end children rows }
 {
+    let object = match branch {
+        Branch::Array => 0,
+        Branch::Object => 1,
+    };
     pack(first, end - 1, rows, 2 * children + object)
 }

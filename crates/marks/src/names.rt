@@ -6,8 +6,8 @@ ghost use Rattle.marks.specs.Marks.{name_mark};
 ghost use Rattle.marks.specs.Names.{bucket_of, Fresh, Quoted, Index, Seen, NameReady, NameTold};
 
 use crate::packing::{first_in, fourth_in, pack, second_in, third_in};
-use chars::{Hashed, hashed_end, peek, same_name};
-use tokens::{Token, unexpected};
+use chars::{Code, Hashed, Reading, Refusal, hashed_end, peek, same_name};
+use tokens::unexpected;
 
 // The bucket of a hash, of so many.
 fn bucket(hash: usize, buckets: usize) -> usize
@@ -49,29 +49,25 @@ fn seen(
 }
 
 // The name at a place, which no member before has of the object at row `object`, with its hash there.
-pub fn name(text: &[u8], heads: &[u16], marks: &[u64], object: usize, at: usize) -> Hashed
+pub fn name(text: &[u8], heads: &[u16], marks: &[u64], object: usize, at: usize) -> Reading<Hashed>
     requires { NameReady text.now heads.now marks.now object }
     ensures { NameTold text.now marks.now object at result }
 {
     if peek(text, at) != b'"' {
-        return match unexpected(text, at) {
-            Token::Broken { code, place } => Hashed::Broken { code, place },
-            Token::Taken { kind: _, end } => Hashed::Name { end, hash: 0 },
-        };
+        return Err(unexpected(text, at));
     }
-    match hashed_end(text, at + 1) {
-        Hashed::Broken { code, place } => Hashed::Broken { code, place },
-        Hashed::Name { end, hash } => {
-            let own = (hash + object as u64) % 65536;
-            if seen(text, heads, marks, object, at, end, own as usize) {
-                return Hashed::Broken {
-                    code: 6,
-                    place: end - 1,
-                };
-            }
-            Hashed::Name { end, hash: own }
-        }
+    let read = hashed_end(text, at + 1)?;
+    let own = (read.hash + object as u64) % 65536;
+    if seen(text, heads, marks, object, at, read.end, own as usize) {
+        return Err(Refusal {
+            code: Code::NameTwice,
+            place: read.end - 1,
+        });
     }
+    Ok(Hashed {
+        end: read.end,
+        hash: own,
+    })
 }
 
 // Keeps the name from `at` up to `end` at a row, and in the index.

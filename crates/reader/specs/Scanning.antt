@@ -1,8 +1,9 @@
 -- For private contracts: what the first pass is given, and what it answers.
-use Rattle.std.specs.Prelude.{ℕ, ◌+◌, ◌*◌, ◌≤◌, ◌<◌, ◌≡◌, false, List, [], ◌∷◌, ◌++◌, length, take, set}
+use Rattle.std.specs.Prelude.{ℕ, ◌+◌, ◌*◌, ◌≤◌, ◌<◌, ◌≡◌, false, List, [], ◌∷◌, ◌++◌, length, take, set, Ok, Err}
 use Rattle.std.proofs.Math.Seq.{slice}
 use Rattle.chars.specs.Bytes.{byte_at}
-use Rattle.tokens.specs.Parse.{Parse, refused, parsed}
+use Rattle.chars.specs.Refusals.{refusal, Reading}
+use Rattle.tokens.specs.Parse.{Parse, refused, parsed, reading_of}
 use Rattle.tokens.specs.Space.{skip}
 use Rattle.tokens.specs.Scalars.{first_of}
 use Rattle.tokens.specs.declared.scalars.First.{First}
@@ -14,11 +15,12 @@ use Rattle.marks.specs.Names.{Fresh, Within, Kept, Index}
 use Rattle.reader.specs.declared.scanning.Following.{Following}
 use Rattle.reader.specs.declared.scanning.Following.TheVariants.{Closing, Item, Other}
 use Rattle.reader.specs.declared.scanning.Scanned.{Scanned}
-use Rattle.reader.specs.declared.scanning.Scanned.TheVariants.{Refused, Value}
 
-abbrev pub scan_of : Parse Node → Scanned
-scan_of (refused c p) = Refused c p
-scan_of (parsed n e) = Value e (size n)
+abbrev pub scanned : ℕ → ℕ → Scanned
+scanned end rows = record { end = end; rows = rows }
+
+abbrev pub scan_of : Parse Node → Reading Scanned
+scan_of o = reading_of (λ n e. scanned e (size n)) o
 
 -- ---- what the first pass is given
 
@@ -26,6 +28,14 @@ scan_of (parsed n e) = Value e (size n)
 pub record Room (s ms : List ℕ) : Type 0 where
   pub short : length s ≤ 65536
   pub rows : length s + 33 ≤ 2 * length ms
+
+-- room of h heads and m marks, all of it cleared, can hold the text's rows
+pub record CanHold (h m : ℕ) (s : List ℕ) : Type 0 where
+  pub short : length s ≤ 65536
+  pub rows : length s + 33 ≤ 2 * m
+  pub some : 0 < h
+  pub few : h ≤ 65536
+  pub marked : m ≤ 65536
 
 -- a value at a place that holds no other, with a mark free at `row`
 pub record LeafReady (s ms : List ℕ) (row i : ℕ) : Type 0 where
@@ -68,7 +78,7 @@ abbrev pub LeafAfter : Parse Node → ℕ → List ℕ → List ℕ → Type 0
 LeafAfter (refused c p) row ms ms₂ = ms₂ ≡ ms
 LeafAfter (parsed n e) row ms ms₂ = (x : ℕ) × (ms₂ ≡ set ms row x) × (mark_entry x ∷ [] ≡ entries n) × (is_name x ≡ false)
 
-pub record LeafTold (o : Parse Node) (r : Scanned) (row : ℕ) (ms ms₂ : List ℕ) : Type 0 where
+pub record LeafTold (o : Parse Node) (r : Reading Scanned) (row : ℕ) (ms ms₂ : List ℕ) : Type 0 where
   pub scan : r ≡ scan_of o
   pub after : LeafAfter o row ms ms₂
 
@@ -85,7 +95,7 @@ abbrev pub After : List ℕ → Parse Node → ℕ → (ms hs₂ ms₂ : List �
 After s (refused c p) row ms hs₂ ms₂ = Unit
 After s (parsed n e) row ms hs₂ ms₂ = Marked s n row ms hs₂ ms₂
 
-pub record Told (s : List ℕ) (o : Parse Node) (r : Scanned) (row : ℕ) (ms hs₂ ms₂ : List ℕ) : Type 0 where
+pub record Told (s : List ℕ) (o : Parse Node) (r : Reading Scanned) (row : ℕ) (ms hs₂ ms₂ : List ℕ) : Type 0 where
   pub scan : r ≡ scan_of o
   pub after : After s o row ms hs₂ ms₂
 
@@ -98,10 +108,10 @@ pub record MemberMarked (s : List ℕ) (before all : Members) (k o row : ℕ) (m
   pub rows : entries_members all ≡ entries_members before ++ mark_entries (slice row (row + k) ms₂)
   pub kept : Kept s o ms₂ (o + 1) all
 
-abbrev pub MemberScan : List ℕ → Members → Parse Members → Scanned → (o row : ℕ) → (ms hs₂ ms₂ : List ℕ) → Type 0
-MemberScan s before (refused c p) r o row ms hs₂ ms₂ = r ≡ Refused c p
-MemberScan s before (parsed all e) r o row ms hs₂ ms₂ = (k : ℕ) × (r ≡ Value e k) × MemberMarked s before all k o row ms hs₂ ms₂
+abbrev pub MemberScan : List ℕ → Members → Parse Members → Reading Scanned → (o row : ℕ) → (ms hs₂ ms₂ : List ℕ) → Type 0
+MemberScan s before (refused c p) r o row ms hs₂ ms₂ = r ≡ Err (refusal c p)
+MemberScan s before (parsed all e) r o row ms hs₂ ms₂ = (k : ℕ) × (r ≡ Ok (scanned e k)) × MemberMarked s before all k o row ms hs₂ ms₂
 
-pub record MemberTold (s : List ℕ) (d : ℕ) (r : Scanned) (o row i : ℕ) (ms hs₂ ms₂ : List ℕ) : Type 0 where
+pub record MemberTold (s : List ℕ) (d : ℕ) (r : Reading Scanned) (o row i : ℕ) (ms hs₂ ms₂ : List ℕ) : Type 0 where
   pub tells : (before : Members) → Kept s o ms (o + 1) before → row ≡ o + 1 + sizes_members before
       → MemberScan s before (member_at (value_at d s) s before i) r o row ms hs₂ ms₂

@@ -1,53 +1,36 @@
 // The first pass: judges a text and keeps its rows, and touches no table.
 ghost use Rattle.std.specs.Prelude.{◌≡◌, ◌+◌, ◌<◌, false, length, set};
-ghost use Rattle.tokens.specs.Parse.{unexpected};
 ghost use Rattle.tokens.specs.Space.{is_space, skip as skipped};
 ghost use Rattle.syntax.specs.Grammar.{leaf_at, value_at, array_at, object_at};
-ghost use Rattle.marks.specs.Marks.{list_mark};
-ghost use Rattle.reader.specs.Scanning.{scan_of, Begun, LeafReady, LeafTold, ListFits, Follows, Ready, Told, MemberReady, MemberTold};
-ghost use Rattle.reader.specs.declared.scanning.Scanned.TheVariants.{Value};
+ghost use Rattle.marks.specs.Marks.{branch_number, list_mark};
+ghost use Rattle.reader.specs.Scanning.{scanned, Begun, LeafReady, LeafTold, ListFits, Follows, Ready, Told, MemberReady, MemberTold};
 
-use chars::{Hashed, peek};
-use marks::{leaf_mark, list_mark, name, push};
-use tokens::{First, Token, first_at, integer_end, scalar, skip};
+use chars::{Code, Reading, Refusal, peek};
+use marks::{Branch, leaf_mark, list_mark, name, push};
+use tokens::{First, Kind, first_at, integer_end, scalar, skip, unexpected};
 
-// A value: where it ends and how many rows it has; or a refusal.
-#[derive(Clone, Copy)]
-pub enum Scanned {
-    Refused { code: u32, place: usize },
-    Value { end: usize, rows: usize },
-}
-
-// The byte at a place is not allowed there, unless the text ended before it.
-fn refuse(text: &[u8], at: usize) -> Scanned
-    ensures { result ≡ scan_of (unexpected text.now at) }
-{
-    if at < text.len() {
-        Scanned::Refused { code: 3, place: at }
-    } else {
-        Scanned::Refused {
-            code: 2,
-            place: text.len(),
-        }
-    }
+// Where a value ends, and how many rows it has.
+#[derive(Clone, Copy, Debug, PartialEq, Eq)]
+pub struct Scanned {
+    pub end: usize,
+    pub rows: usize,
 }
 
 // The value at a place that holds no other, by what it begins with.
-fn leaf(first: First, text: &[u8], marks: &mut [u64], row: usize, at: usize) -> Scanned
+fn leaf(first: First, text: &[u8], marks: &mut [u64], row: usize, at: usize) -> Reading<Scanned>
     requires { LeafReady text.now marks.old row at × Begun text.now at first }
     ensures { LeafTold (leaf_at text.now at) result row marks.old marks.new }
 {
-    match scalar(first, text, at) {
-        Token::Broken { code, place } => Scanned::Refused { code, place },
-        Token::Taken { kind, end } => {
-            marks[row] = leaf_mark(kind, at, end);
-            Scanned::Value { end, rows: 1 }
-        }
-    }
+    let token = scalar(first, text, at)?;
+    marks[row] = leaf_mark(u32::from(token.kind), at, token.end);
+    Ok(Scanned {
+        end: token.end,
+        rows: 1,
+    })
 }
 
 // What stands behind an item and the space after it: the closing byte, a comma with the next item behind it, or neither.
-#[derive(Clone, Copy)]
+#[derive(Clone, Copy, Debug, PartialEq, Eq)]
 pub enum Following {
     Closing { end: usize },
     Item { at: usize },
@@ -94,22 +77,22 @@ fn skip_to(text: &[u8], at: usize, sign: u8) -> usize
     skip(text, at)
 }
 
-// Keeps the row of an array, of which `object` is 0, or of an object, of which it is 1.
+// Keeps the row of an array or an object.
 fn close(
     marks: &mut [u64],
-    object: usize,
+    branch: Branch,
     row: usize,
     at: usize,
     end: usize,
     children: usize,
     rows: usize,
 ) -> Scanned
-    requires { ListFits object at end children rows row (length marks.old) }
-    ensures value { result ≡ Value end rows }
-    ensures marks_after { marks.new ≡ set marks.old row (list_mark object at end children rows) }
+    requires { ListFits (branch_number branch) at end children rows row (length marks.old) }
+    ensures value { result ≡ scanned end rows }
+    ensures marks_after { marks.new ≡ set marks.old row (list_mark (branch_number branch) at end children rows) }
 {
-    marks[row] = list_mark(object, at, end, children, rows);
-    Scanned::Value { end, rows }
+    marks[row] = list_mark(branch, at, end, children, rows);
+    Scanned { end, rows }
 }
 
 // The value at a place, by what it begins with, with `depth` more brackets allowed to open, and the marks free from `row` on.
@@ -122,7 +105,7 @@ pub fn value(
     row: usize,
     at: usize,
     depth: usize,
-) -> Scanned
+) -> Reading<Scanned>
     requires { Ready text.now heads.old marks.old depth row at × Begun text.now at first }
     ensures { Told text.now (value_at depth text.now at) result row marks.old heads.new marks.new }
 {
@@ -133,7 +116,10 @@ pub fn value(
         }
     }
     if depth == 0 {
-        return Scanned::Refused { code: 7, place: at };
+        return Err(Refusal {
+            code: Code::TooDeep,
+            place: at,
+        });
     }
     match first {
         First::Array => array(text, heads, marks, row, at, depth - 1),
@@ -150,7 +136,7 @@ fn item(
     row: usize,
     at: usize,
     depth: usize,
-) -> Scanned
+) -> Reading<Scanned>
     requires { Ready text.now heads.old marks.old depth row at }
     ensures { Told text.now (value_at depth text.now at) result row marks.old heads.new marks.new }
 {
@@ -159,8 +145,8 @@ fn item(
         First::Number => {
             let end = integer_end(text, at);
             if end > at {
-                marks[row] = leaf_mark(4, at, end);
-                return Scanned::Value { end, rows: 1 };
+                marks[row] = leaf_mark(u32::from(Kind::Whole), at, end);
+                return Ok(Scanned { end, rows: 1 });
             }
         }
         _ => {}
@@ -177,35 +163,29 @@ fn array(
     row: usize,
     at: usize,
     depth: usize,
-) -> Scanned
+) -> Reading<Scanned>
     requires { Ready text.now heads.old marks.old (depth + 1) row at × (at < length text.now) }
     ensures { Told text.now (array_at (value_at depth text.now) text.now at) result row marks.old heads.new marks.new }
 {
     let mut i = skip(text, at + 1);
     if peek(text, i) == b']' {
-        return close(marks, 0, row, at, i + 1, 0, 1);
+        return Ok(close(marks, Branch::Array, row, at, i + 1, 0, 1));
     }
     let mut rows: usize = 1;
     let mut children: usize = 0;
     loop {
-        match item(text, heads, marks, row + rows, i, depth) {
-            Scanned::Refused { code, place } => {
-                return Scanned::Refused { code, place };
+        let scanned = item(text, heads, marks, row + rows, i, depth)?;
+        rows += scanned.rows;
+        children += 1;
+        match behind(text, scanned.end, b']') {
+            Following::Closing { end } => {
+                return Ok(close(marks, Branch::Array, row, at, end, children, rows));
             }
-            Scanned::Value { end, rows: more } => {
-                rows += more;
-                children += 1;
-                match behind(text, end, b']') {
-                    Following::Closing { end: e } => {
-                        return close(marks, 0, row, at, e, children, rows);
-                    }
-                    Following::Item { at: next } => {
-                        i = next;
-                    }
-                    Following::Other { at: j } => {
-                        return refuse(text, j);
-                    }
-                }
+            Following::Item { at: next } => {
+                i = next;
+            }
+            Following::Other { at: other } => {
+                return Err(unexpected(text, other));
             }
         }
     }
@@ -221,28 +201,22 @@ fn member(
     row: usize,
     at: usize,
     depth: usize,
-) -> Scanned
+) -> Reading<Scanned>
     requires { MemberReady text.now heads.old marks.old depth object row at }
     ensures { MemberTold text.now depth result object row at marks.old heads.new marks.new }
 {
-    match name(text, heads, marks, object, at) {
-        Hashed::Broken { code, place } => Scanned::Refused { code, place },
-        Hashed::Name { end: e, hash } => {
-            push(heads, marks, row, at, e, hash as usize);
-            let j = skip_to(text, e, b':');
-            if peek(text, j) != b':' {
-                return refuse(text, j);
-            }
-            let k = skip(text, j + 1);
-            match item(text, heads, marks, row + 1, k, depth) {
-                Scanned::Refused { code, place } => Scanned::Refused { code, place },
-                Scanned::Value { end, rows } => Scanned::Value {
-                    end,
-                    rows: rows + 1,
-                },
-            }
-        }
+    let named = name(text, heads, marks, object, at)?;
+    push(heads, marks, row, at, named.end, named.hash as usize);
+    let colon = skip_to(text, named.end, b':');
+    if peek(text, colon) != b':' {
+        return Err(unexpected(text, colon));
     }
+    let k = skip(text, colon + 1);
+    let scanned = item(text, heads, marks, row + 1, k, depth)?;
+    Ok(Scanned {
+        end: scanned.end,
+        rows: scanned.rows + 1,
+    })
 }
 
 // The object whose brace stands at a place.
@@ -254,35 +228,29 @@ fn object(
     row: usize,
     at: usize,
     depth: usize,
-) -> Scanned
+) -> Reading<Scanned>
     requires { Ready text.now heads.old marks.old (depth + 1) row at × (at < length text.now) }
     ensures { Told text.now (object_at (value_at depth text.now) text.now at) result row marks.old heads.new marks.new }
 {
     let mut i = skip(text, at + 1);
     if peek(text, i) == b'}' {
-        return close(marks, 1, row, at, i + 1, 0, 1);
+        return Ok(close(marks, Branch::Object, row, at, i + 1, 0, 1));
     }
     let mut rows: usize = 1;
     let mut children: usize = 0;
     loop {
-        match member(text, heads, marks, row, row + rows, i, depth) {
-            Scanned::Refused { code, place } => {
-                return Scanned::Refused { code, place };
+        let scanned = member(text, heads, marks, row, row + rows, i, depth)?;
+        rows += scanned.rows;
+        children += 1;
+        match behind(text, scanned.end, b'}') {
+            Following::Closing { end } => {
+                return Ok(close(marks, Branch::Object, row, at, end, children, rows));
             }
-            Scanned::Value { end, rows: more } => {
-                rows += more;
-                children += 1;
-                match behind(text, end, b'}') {
-                    Following::Closing { end: e } => {
-                        return close(marks, 1, row, at, e, children, rows);
-                    }
-                    Following::Item { at: next } => {
-                        i = next;
-                    }
-                    Following::Other { at: j } => {
-                        return refuse(text, j);
-                    }
-                }
+            Following::Item { at: next } => {
+                i = next;
+            }
+            Following::Other { at: j } => {
+                return Err(unexpected(text, j));
             }
         }
     }

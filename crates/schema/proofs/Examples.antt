@@ -19,7 +19,7 @@ use Rattle.chars.specs.Characters.{stop_at, wrong_at, hex_pair, partner_at, rest
 use Rattle.chars.specs.Strings.{string_from, string_at, chars_from, chars_at}
 use Rattle.tokens.specs.Numbers.{whole_end, sign_end, power_at, exponent_at, fraction_at, unsigned_at, number_at}
 use Rattle.tokens.specs.Scalars.{first_of, word_at}
-use Rattle.tokens.specs.Tokens.{Null, Whole, Quoted}
+use Rattle.tokens.specs.declared.tokens.Kind.TheVariants.{Null, Whole, Quoted}
 use Rattle.syntax.specs.Tree.{Node, scalar, array, object, none, more, no_member}
 use Rattle.syntax.specs.Grammar.{after_item, items_from, items_at, list_at, repeated, name_at, after_name, value_at, alone, read_text}
 use Rattle.syntax.specs.Answer.{answer, table_of}

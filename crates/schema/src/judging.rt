@@ -7,7 +7,7 @@ ghost use Rattle.schema.specs.Walks.{Judgeable, Judged, JudgedDate, ArrayJudgeab
 ghost use Rattle.schema.specs.Walks.{FieldJudgeable, FieldJudged};
 
 use crate::dates::count;
-use date::{Moment, moment_of};
+use date::moment_of;
 use definitions::{Generic, TypeName, define, generic_name, named_type, takes};
 use rows::{FEW_NAMES, MOST_NAMES, between, find, match_names, row_at, wide};
 
@@ -52,7 +52,7 @@ fn judge_date(
     if value.kind != 6 {
         return Mismatch::at(20, value.first, other);
     }
-    let Moment::At(moment) = moment_of(between(document, value.first, value.end)) else {
+    let Some(moment) = moment_of(between(document, value.first, value.end)) else {
         return Mismatch::at(22, value.first, other);
     };
     count(dates, moment);

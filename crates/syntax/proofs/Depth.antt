@@ -11,6 +11,7 @@ use Rattle.syntax.specs.Grammar.{element_at, array_at, member_at, object_at, lea
 use Rattle.syntax.proofs.Items.{list_keep}
 use Rattle.syntax.proofs.Values.{by_ways, leaf_parsed, element_parsed, array_parsed, member_parsed, object_parsed}
 use Rattle.syntax.proofs.Induction.{read_begins}
+use Rattle.chars.specs.declared.refusals.Code.TheVariants.{TooDeep}
 
 -- at most d brackets are open at once
 abbrev mutual
@@ -62,7 +63,7 @@ module _ (s : List ℕ) where
   value_shallow : (d i : ℕ) (n : Node) (e : ℕ) → value_at d s i ≡ parsed n e → Shallow d n
   unfolding value_at
   value_shallow zero i n e =
-      by_ways (λ x. x ≡ parsed n e → Shallow zero n) (λ j. refused 7 j) (λ j. refused 7 j) s i (first_of (byte_at s i))
+      by_ways (λ x. x ≡ parsed n e → Shallow zero n) (λ j. refused TooDeep j) (λ j. refused TooDeep j) s i (first_of (byte_at s i))
       (λ _ q. never (cc)) (λ _ q. never (cc)) (leaf_shallow zero i n e)
   value_shallow (suc d) i n e =
       let v = value_at d s in

@@ -6,7 +6,9 @@ use native.Mathlib.Omega.{arith}
 use lib.ListN.{length, get_or, take, drop, length-append, get_or-append}
 use borrow.Author.Tests.{le-leb}
 use Rattle.tokens.specs.Parse.{parsed}
-use Rattle.tokens.specs.Tokens.{Kind, Null, False, True, Whole, Fractional, Quoted, kind_number}
+use Rattle.tokens.specs.declared.tokens.Kind.{Kind}
+use Rattle.tokens.specs.declared.tokens.Kind.TheVariants.{Null, False, True, Whole, Fractional, Quoted}
+use Rattle.tokens.specs.Tokens.{kind_number}
 use Rattle.syntax.specs.Tree.{Node, scalar, array, object, Nodes, none, more, Members, no_member, member}
 use Rattle.syntax.specs.Rows.{Entry, entry, count, count_members, size, sizes, sizes_members, entries, entries_all, entries_members}
 use Rattle.syntax.specs.Rows.{parents, parents_all, parents_members, row_words, row, words}

@@ -10,7 +10,7 @@ use borrow.Author.Tests.{ltb-true, ltb-false}
 use Rattle.chars.specs.Bytes.{byte_at}
 use Rattle.tokens.specs.Parse.{Parse, refused, parsed}
 use Rattle.tokens.specs.Space.{skip}
-use Rattle.tokens.specs.Tokens.{Kind}
+use Rattle.tokens.specs.declared.tokens.Kind.{Kind}
 use Rattle.tokens.specs.Scalars.{first_of, scalar_at}
 use Rattle.tokens.specs.Spelling.{IsQuoted}
 use Rattle.tokens.specs.declared.scalars.First.{First}
@@ -19,6 +19,8 @@ use Rattle.syntax.specs.Tree.{Node, scalar, array, object, Nodes, none, add_node
 use Rattle.syntax.specs.Grammar.{element_at, array_at, name_of, repeated, member_at, object_at, leaf_at, value_by, value_at, alone, read_text}
 use Rattle.syntax.proofs.Items.{then_both, list_keep}
 use Rattle.syntax.proofs.Values.{by_ways, leaf_parsed, element_parsed, array_parsed, member_parsed, name_parsed, object_parsed, value_takes}
+use Rattle.chars.specs.declared.refusals.Code.{Code}
+use Rattle.chars.specs.declared.refusals.Code.TheVariants.{TooLong, NotAllowed, TooDeep}
 
 -- ---- values
 
@@ -43,7 +45,7 @@ module _ {s : List ℕ} {P : Node → Type 0} {Q : Nodes → Type 0} {R : Member
   by_obeys : (a o : ℕ → Parse Node) (i : ℕ) → Obeys a i → Obeys o i → (f : First) → Obeys (value_by f a o s) i
   by_obeys a o i g h f n e l m = by_ways (λ x. x ≡ parsed n e → P n) a o s i f (λ _. g n e l m) (λ _. h n e l m) (leaf_obeys i n e l m)
 
-  deep_obeys : (i : ℕ) → Obeys (λ j. refused 7 j) i
+  deep_obeys : (i : ℕ) → Obeys (λ j. refused TooDeep j) i
   deep_obeys i n e l h q = never (cc)
 
   module _ (v : ℕ → Parse Node) (each : (i : ℕ) (n : Node) (e : ℕ) → v i ≡ parsed n e → P n) where
@@ -72,7 +74,7 @@ module _ {s : List ℕ} {P : Node → Type 0} {Q : Nodes → Type 0} {R : Member
   unfolding value_at
   value_rule zero i n e q =
       let t = value_takes s zero q in
-      by_obeys (λ j. refused 7 j) (λ j. refused 7 j) i (deep_obeys i) (deep_obeys i) (first_of (byte_at s i)) n e t.0 t.1 q
+      by_obeys (λ j. refused TooDeep j) (λ j. refused TooDeep j) i (deep_obeys i) (deep_obeys i) (first_of (byte_at s i)) n e t.0 t.1 q
   value_rule (suc d) i n e q =
       let v = value_at d s in
       let t = value_takes s (suc d) q in
@@ -88,9 +90,9 @@ pub record Begins (bytes depth : ℕ) (s : List ℕ) (n : Node) (e : ℕ) : Type
 module _ (bytes depth : ℕ) (s : List ℕ) where
   -- the four ways of a text: too long; a value refused; something behind the value; a value alone
   pub read_ways : (P : Parse Node → Type 0)
-      → (bytes < length s → P (refused 1 bytes))
-      → ((c p : ℕ) → value_at depth s (skip s 0) ≡ refused c p → P (refused c p))
-      → ((n : Node) (e : ℕ) → Begins bytes depth s n e → skip s e < length s → P (refused 3 (skip s e)))
+      → (bytes < length s → P (refused TooLong bytes))
+      → ((c : Code) (p : ℕ) → value_at depth s (skip s 0) ≡ refused c p → P (refused c p))
+      → ((n : Node) (e : ℕ) → Begins bytes depth s n e → skip s e < length s → P (refused NotAllowed (skip s e)))
       → ((n : Node) (e : ℕ) → Begins bytes depth s n e → length s ≤ skip s e → P (parsed n (skip s e)))
       → P (read_text bytes depth s)
   unfolding read_text alone

@@ -13,13 +13,16 @@ use Rattle.model.proofs.Basics.{never, both}
 use Rattle.chars.proofs.Facts.{in_text, run-from}
 use Rattle.tokens.proofs.Facts.{unexpected_ways}
 use Rattle.syntax.specs.Grammar.{after_item, items_from, items_at, list_at}
+use Rattle.chars.specs.Refusals.{number}
+use Rattle.chars.specs.declared.refusals.Code.{Code}
+use Rattle.chars.specs.declared.refusals.Code.TheVariants.{NotAllowed, Ended}
 
 -- ---- what is read behind another
 
 module _ {A B : Type 0} where
   -- both ways of what is read first
   pub then_both : (P : Parse B → Type 0) (o : Parse A) (k : A → ℕ → Parse B)
-      → ((c p : ℕ) → o ≡ refused c p → P (refused c p)) → ((a : A) (e : ℕ) → o ≡ parsed a e → P (k a e)) → P (then o k)
+      → ((c : Code) (p : ℕ) → o ≡ refused c p → P (refused c p)) → ((a : A) (e : ℕ) → o ≡ parsed a e → P (k a e)) → P (then o k)
   then_both P (refused c p) k f g = f c p refl
   then_both P (parsed a e) k f g = g a e refl
 
@@ -35,12 +38,12 @@ module _ {A B : Type 0} where
 -- ---- refusals
 
 -- a refusal that lies in the text, with a code from 2 to 7
-abbrev pub Refusal : List ℕ → ℕ → ℕ → Type 0
-Refusal s c p = (p ≤ length s) × (2 ≤ c) × (c ≤ 7)
+abbrev pub IsRefusal : List ℕ → Code → ℕ → Type 0
+IsRefusal s c p = (p ≤ length s) × (2 ≤ number c) × (number c ≤ 7)
 
 module _ {A : Type 0} (s : List ℕ) (i : ℕ) where
-  pub unexpected_both : (P : Parse A → Type 0) → ((c p : ℕ) → Refusal s c p → P (refused c p)) → P (unexpected s i)
-  unexpected_both P f = unexpected_ways P s i (λ l. f 3 i (omega arith)) (f 2 (length s) (omega arith))
+  pub unexpected_both : (P : Parse A → Type 0) → ((c : Code) (p : ℕ) → IsRefusal s c p → P (refused c p)) → P (unexpected s i)
+  unexpected_both P f = unexpected_ways P s i (λ l. f NotAllowed i (omega arith)) (f Ended (length s) (omega arith))
 
   pub unexpected_no : (a : A) (e : ℕ) → unexpected s i ≡ parsed a e → ⊥
   unexpected_no a e = unexpected_both (λ o. o ≡ parsed a e → ⊥) (λ c p _ q. never (cc))
@@ -49,21 +52,21 @@ module _ {A : Type 0} (s : List ℕ) (i : ℕ) where
 
 -- reading one more item: what it takes of the text, and how many rows it adds: with the byte behind it, two bytes for each
 abbrev pub Adds : {L : Type 0} → List ℕ → (L → ℕ) → L → ℕ → Parse L → Type 0
-Adds s rows before i (refused c p) = Refusal s c p
+Adds s rows before i (refused c p) = IsRefusal s c p
 Adds s rows before i (parsed all e) = (i < e) × (e ≤ length s) × (rows before < rows all) × (i + 2 * rows all ≤ e + 2 * rows before + 1)
 
 pub record Reads {L : Type 0} (s : List ℕ) (rows : L → ℕ) (item : L → ℕ → Parse L) : Type 0 where
   pub adds : (before : L) (i : ℕ) → Adds s rows before i (item before i)
-  pub ended : (before : L) (i : ℕ) → length s ≤ i → item before i ≡ refused 2 (length s)
+  pub ended : (before : L) (i : ℕ) → length s ≤ i → item before i ≡ refused Ended (length s)
 
 -- the same of one or more items with what closes them
 abbrev pub ItemsWithin : {L : Type 0} → List ℕ → (L → ℕ) → L → ℕ → Parse L → Type 0
-ItemsWithin s rows before i (refused c p) = Refusal s c p
+ItemsWithin s rows before i (refused c p) = IsRefusal s c p
 ItemsWithin s rows before i (parsed all e) = (i < e) × (e ≤ length s) × (rows before ≤ rows all) × (i + 2 * rows all ≤ e + 2 * rows before)
 
 -- and of a list from its opening byte on
 abbrev pub ListWithin : {L : Type 0} → List ℕ → (L → ℕ) → L → ℕ → Parse L → Type 0
-ListWithin s rows before i (refused c p) = Refusal s c p
+ListWithin s rows before i (refused c p) = IsRefusal s c p
 ListWithin s rows before i (parsed all e) = (i + 2 ≤ e) × (e ≤ length s) × (rows before ≤ rows all) × (i + 2 * rows all + 1 ≤ e + 2 * rows before)
 
 -- a byte that is not 0 stands in the text
@@ -125,7 +128,7 @@ module _ {L : Type 0} {s : List ℕ} {rows : L → ℕ} {item : L → ℕ → Pa
         (λ all e q. let i₂ = skip s (skip s e + 1) in
         after_same closing s all (skip s e) _ _ (items_enough (length s) (length s - i₂) all i₂ (omega arith) (omega arith)))
 
-    pub items_refused : {before : L} {i c p : ℕ} → item before i ≡ refused c p → items_at closing item s before i ≡ refused c p
+    pub items_refused : {before : L} {i : ℕ} {c : Code} {p : ℕ} → item before i ≡ refused c p → items_at closing item s before i ≡ refused c p
     items_refused {before} {i} q = items_step before i ∙ rw q
 
     -- behind an item: a comma, the closing byte, or neither

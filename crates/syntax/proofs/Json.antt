@@ -8,7 +8,8 @@ use Rattle.model.specs.Value.{has_name, IsJson, AreJson, AreMembers}
 use Rattle.model.proofs.Basics.{or-false}
 use Rattle.tokens.specs.Parse.{parsed}
 use Rattle.chars.specs.Strings.{part}
-use Rattle.tokens.specs.Tokens.{Kind, Null, False, True, Whole, Fractional, Quoted}
+use Rattle.tokens.specs.declared.tokens.Kind.{Kind}
+use Rattle.tokens.specs.declared.tokens.Kind.TheVariants.{Null, False, True, Whole, Fractional, Quoted}
 use Rattle.tokens.specs.Spelling.{Spells}
 use Rattle.tokens.proofs.Facts.{scalar_spells, characters_text}
 use Rattle.syntax.specs.Tree.{Node, Nodes, none, more, add_node, Members, no_member, member, add_member}

@@ -16,6 +16,7 @@ use Rattle.syntax.specs.Grammar.{items_from, items_at, list_at, element_at, arra
 use Rattle.syntax.proofs.Items.{then_both, unexpected_both, after_ways}
 use Rattle.syntax.proofs.Values.{by_ways, leaf_parsed, element_parsed, array_parsed, member_parsed, object_parsed, name_takes, value_takes}
 use Rattle.syntax.proofs.Induction.{read_begins}
+use Rattle.chars.specs.declared.refusals.Code.TheVariants.{TooDeep}
 
 -- the first bytes of the values, in the order of their rows
 abbrev mutual
@@ -122,7 +123,7 @@ module _ (s : List ℕ) where
   value_begins : (d i : ℕ) (n : Node) (e : ℕ) → value_at d s i ≡ parsed n e → Begin i n e
   unfolding value_at
   value_begins zero i n e q =
-      by_ways (λ x. x ≡ parsed n e → Begin i n e) (λ j. refused 7 j) (λ j. refused 7 j) s i (first_of (byte_at s i))
+      by_ways (λ x. x ≡ parsed n e → Begin i n e) (λ j. refused TooDeep j) (λ j. refused TooDeep j) s i (first_of (byte_at s i))
       (λ _ z. never (cc)) (λ _ z. never (cc)) (leaf_begins zero i n e (value_takes s zero q).0) q
   value_begins (suc d) i n e q =
       let v = value_at d s in

@@ -1,5 +1,5 @@
 -- What holds of every text that is read, and of every refusal (01, "Text", "Rows", "Three services").
-use mathlib.Core.Path.{◌≡◌}
+use mathlib.Core.Path.{◌≡◌, ap}
 use mathlib.Core.List.{List}
 use Prim.Native.Nat.{ℕ, ◌≤◌, ◌<◌}
 use native.Mathlib.Omega.{arith}
@@ -17,9 +17,12 @@ use Rattle.syntax.specs.Rows.{size}
 use Rattle.syntax.specs.Answer.{rows_in, table_of}
 use Rattle.syntax.specs.Holding.{Holds, Nested, Placed}
 use Rattle.syntax.proofs.Holding.{holds_same, table_holds, table_nested}
-use Rattle.syntax.proofs.Items.{Refusal}
+use Rattle.syntax.proofs.Items.{IsRefusal}
 use Rattle.syntax.proofs.Values.{value_within, value_takes}
 use Rattle.syntax.proofs.Induction.{read_ways, read_begins}
+use Rattle.chars.specs.Refusals.{number}
+use Rattle.chars.specs.declared.refusals.Code.{Code}
+use Rattle.chars.specs.declared.refusals.Code.TheVariants.{TooLong, NotAllowed}
 -- of a value at any place: where it lies, and that it spells a JSON value
 pub use Rattle.syntax.proofs.Placing.{value_placed}
 pub use Rattle.syntax.proofs.Json.{value_json}
@@ -62,17 +65,17 @@ module _ (bytes depth : ℕ) (s : List ℕ) where
   -- ---- a refusal
 
   -- a text that is too long has code 1 at the limit, whatever it holds
-  pub read_long : bytes < length s → read_text bytes depth s ≡ refused 1 bytes
+  pub read_long : bytes < length s → read_text bytes depth s ≡ refused TooLong bytes
   unfolding read_text
   read_long h = rw (lt-ltb bytes (length s) h)
 
   -- any refusal has a code from 1 to 7, and its place lies in the text or at its end
-  pub read_code : (c p : ℕ) → read_text bytes depth s ≡ refused c p → (0 < c) × (c < 8) × (p ≤ length s)
+  pub read_code : (c : Code) (p : ℕ) → read_text bytes depth s ≡ refused c p → (0 < number c) × (number c < 8) × (p ≤ length s)
   read_code c p =
-      read_ways bytes depth s (λ o. o ≡ refused c p → (0 < c) × (c < 8) × (p ≤ length s))
-      (λ l q. let x : c ≡ 1 = cc in let y : p ≡ bytes = cc in omega arith)
-      (λ d r w q. let x : c ≡ d = cc in let y : p ≡ r = cc in let z : Refusal s d r = rw w at (value_within s depth (skip s 0)) in omega arith)
-      (λ n e b l q. let x : c ≡ 3 = cc in let y : p ≡ skip s e = cc in omega arith)
+      read_ways bytes depth s (λ o. o ≡ refused c p → (0 < number c) × (number c < 8) × (p ≤ length s))
+      (λ l q. let w : c ≡ TooLong = cc in let x : number c ≡ 1 = ap number w in let y : p ≡ bytes = cc in omega arith)
+      (λ d r w q. let v : c ≡ d = cc in let x : number c ≡ number d = ap number v in let y : p ≡ r = cc in let z : IsRefusal s d r = rw w at (value_within s depth (skip s 0)) in omega arith)
+      (λ n e b l q. let w : c ≡ NotAllowed = cc in let x : number c ≡ 3 = ap number w in let y : p ≡ skip s e = cc in omega arith)
       (λ n e b l q. never (cc))
 
 -- ---- tables

@@ -14,10 +14,12 @@ use Rattle.chars.specs.Bytes.{byte_at}
 use Rattle.tokens.specs.Parse.{Parse, refused, parsed, then, unexpected}
 use Rattle.tokens.specs.Space.{is_space, skip}
 use Rattle.chars.specs.Strings.{string_at}
-use Rattle.tokens.specs.Tokens.{Kind, Quoted}
+use Rattle.tokens.specs.declared.tokens.Kind.{Kind}
+use Rattle.tokens.specs.declared.tokens.Kind.TheVariants.{Quoted}
 use Rattle.tokens.specs.Scalars.{first_of, quoted, scalar_at}
-use Rattle.chars.specs.declared.strings.Scan.{Scan}
-use Rattle.chars.specs.declared.strings.Scan.TheVariants.{Ends, Stopped}
+use Rattle.std.specs.Prelude.{Ok, Err}
+use Rattle.chars.specs.Refusals.{Reading}
+use Rattle.chars.specs.declared.refusals.Refusal.{Refusal}
 use Rattle.tokens.specs.declared.scalars.First.{First}
 use Rattle.tokens.specs.declared.scalars.First.TheVariants.{Array, Object, Quote, Number, LetterN, LetterF, LetterT, Other}
 use Rattle.tokens.specs.contracts.scalars.First.{the_type}
@@ -27,14 +29,15 @@ use Rattle.tokens.proofs.Facts.{first_array, first_object, scalar_bounded, scala
 use Rattle.syntax.specs.Tree.{Node, scalar, array, object, Nodes, none, add_node, Members, no_member, add_member}
 use Rattle.syntax.specs.Rows.{size, sizes, sizes_members}
 use Rattle.syntax.specs.Grammar.{list_at, element_at, array_at, name_of, repeated, name_at, after_name, member_at, object_at, leaf_at, value_by, value_at}
-use Rattle.syntax.proofs.Items.{then_both, then_parsed, Refusal, unexpected_both, unexpected_no, Adds, Reads, ListWithin, list_within, byte_in}
+use Rattle.syntax.proofs.Items.{then_both, then_parsed, IsRefusal, unexpected_both, unexpected_no, Adds, Reads, ListWithin, list_within, byte_in}
 use Rattle.syntax.proofs.Sizes.{size_pos, sizes_add, sizes_members_add}
+use Rattle.chars.specs.declared.refusals.Code.TheVariants.{Ended, NameTwice, TooDeep}
 
 -- ---- which way a value goes
 
 -- what an opening byte begins, with d more brackets allowed
 abbrev opening : ((ℕ → Parse Node) → List ℕ → ℕ → Parse Node) → ℕ → List ℕ → ℕ → Parse Node
-opening at zero s j = refused 7 j
+opening at zero s j = refused TooDeep j
 opening at (suc d) s j = at (value_at d s) s j
 
 -- the three ways: an array, an object, and what holds no other value
@@ -62,14 +65,14 @@ module _ (d : ℕ) (s : List ℕ) (i : ℕ) where
   opened at z = let e : d ≡ suc (d - 1) = omega arith in ap (λ (k : ℕ). opening at k s i) e
 
   module _ (f : first_of (byte_at s i) ≡ Array) where
-    pub value_deep_array : d ≡ 0 → value_at d s i ≡ refused 7 i
+    pub value_deep_array : d ≡ 0 → value_at d s i ≡ refused TooDeep i
     value_deep_array z = value-by ∙ rw (f, z)
 
     pub value_array : (d ≡ 0 → ⊥) → value_at d s i ≡ array_at (value_at (d - 1) s) s i
     value_array z = value-by ∙ rw f (opened array_at z)
 
   module _ (f : first_of (byte_at s i) ≡ Object) where
-    pub value_deep_object : d ≡ 0 → value_at d s i ≡ refused 7 i
+    pub value_deep_object : d ≡ 0 → value_at d s i ≡ refused TooDeep i
     value_deep_object z = value-by ∙ rw (f, z)
 
     pub value_object : (d ≡ 0 → ⊥) → value_at d s i ≡ object_at (value_at (d - 1) s) s i
@@ -107,12 +110,12 @@ module _ (s : List ℕ) (before : Members) (i : ℕ) where
   name_bare n = rw (ne_eqb (byte_at s i) 0x22 n)
 
   module _ (b : byte_at s i ≡ 0x22) where
-    pub name_stopped : {c p : ℕ} → string_at s (i + 1) ≡ Stopped c p → name_at s before i ≡ refused c p
+    pub name_stopped : {r : Refusal} → string_at s (i + 1) ≡ Err r → name_at s before i ≡ refused r.code r.place
     unfolding name_at
     name_stopped q = rw (b, q)
 
-    module _ {e : ℕ} (q : string_at s (i + 1) ≡ Ends e) where
-      pub name_again : repeated s before (name_of s i e) ≡ true → name_at s before i ≡ refused 6 (e - 1)
+    module _ {e : ℕ} (q : string_at s (i + 1) ≡ Ok e) where
+      pub name_again : repeated s before (name_of s i e) ≡ true → name_at s before i ≡ refused NameTwice (e - 1)
       unfolding name_at
       name_again t = rw (b, q, t)
 
@@ -141,13 +144,13 @@ made_parsed (parsed a f) make b e q = let z : f ≡ e = cc in (a, cc, ap (parsed
 pub leaf_parsed : (s : List ℕ) {i e : ℕ} {n : Node} → leaf_at s i ≡ parsed n e → (k : Kind) × (n ≡ scalar k i e) × (scalar_at s i ≡ parsed k e)
 leaf_parsed s {i} {e} {n} q = made_parsed (scalar_at s i) (λ k f. scalar k i f) n e q
 
-quoted_parsed : (x : Scan) (k : Kind) (e : ℕ) → quoted x ≡ parsed k e → (x ≡ Ends e) × (k ≡ Quoted)
-quoted_parsed (Ends f) k e q = let z : f ≡ e = cc in (ap Ends z, cc)
-quoted_parsed (Stopped c p) k e q = never (cc)
+quoted_parsed : (x : Reading ℕ) (k : Kind) (e : ℕ) → quoted x ≡ parsed k e → (x ≡ Ok e) × (k ≡ Quoted)
+quoted_parsed (Ok f) k e q = let z : f ≡ e = cc in (ap Ok z, cc)
+quoted_parsed (Err r) k e q = never (cc)
 
 -- a name that none before has, from its opening quote at i up to e
 abbrev pub Named : List ℕ → Members → ℕ → Kind → ℕ → Type 0
-Named s before i k e = (byte_at s i ≡ 0x22) × (string_at s (i + 1) ≡ Ends e) × (repeated s before (name_of s i e) ≡ false) × (k ≡ Quoted)
+Named s before i k e = (byte_at s i ≡ 0x22) × (string_at s (i + 1) ≡ Ok e) × (repeated s before (name_of s i e) ≡ false) × (k ≡ Quoted)
 
 pub name_parsed : (s : List ℕ) (before : Members) (i : ℕ) {k : Kind} {e : ℕ} → name_at s before i ≡ parsed k e → Named s before i k e
 unfolding name_at
@@ -156,7 +159,7 @@ name_parsed s before i {k} {e} =
     (λ t q. let r = then_parsed (quoted (string_at s (i + 1))) _ k e q in
     let x = quoted_parsed (string_at s (i + 1)) r.0 r.1 r.2 in
     both (λ o. o ≡ parsed k e → Named s before i k e) (repeated s before (name_of s i r.1)) (λ _ z. never (cc))
-    (λ u z. let y : r.1 ≡ e = cc in (eqb-true _ _ t, x.0 ∙ ap Ends y, rw (← y) u, cc))
+    (λ u z. let y : r.1 ≡ e = cc in (eqb-true _ _ t, x.0 ∙ ap Ok y, rw (← y) u, cc))
     r.3)
     (λ _ q. absurd (unexpected_no s i k e q))
 
@@ -210,7 +213,7 @@ module _ (v : ℕ → Parse Node) where
 
 -- with the byte behind it, a value has two bytes for each of its rows
 abbrev pub ValueWithin : List ℕ → ℕ → Parse Node → Type 0
-ValueWithin s i (refused c p) = Refusal s c p
+ValueWithin s i (refused c p) = IsRefusal s c p
 ValueWithin s i (parsed n e) = (i < e) × (e ≤ length s) × (i + 2 * size n ≤ e + 1)
 
 -- ---- names
@@ -218,9 +221,9 @@ ValueWithin s i (parsed n e) = (i < e) × (e ≤ length s) × (i + 2 * size n �
 string_bounded : (s : List ℕ) (i : ℕ) → Bounded s i (quoted (string_at s i))
 string_bounded s i = go (string_at s i) (string_ahead s i)
   where
-    go : (x : Scan) → ScanAhead s i x → Bounded s i (quoted x)
-    go (Ends e) h = omega arith
-    go (Stopped c p) h = omega arith
+    go : (x : Reading ℕ) → ScanAhead s i x → Bounded s i (quoted x)
+    go (Ok e) h = omega arith
+    go (Err r) h = omega arith
 
 module _ (s : List ℕ) (before : Members) (i : ℕ) where
   pub name_within : Bounded s i (name_at s before i)
@@ -236,13 +239,13 @@ module _ (s : List ℕ) (before : Members) (i : ℕ) where
   pub name_takes : {k : Kind} {e : ℕ} → name_at s before i ≡ parsed k e → i + 2 ≤ e
   name_takes {k} {e} q = let w : (i + 1 < e) × (e ≤ length s) = rw (name_parsed s before i q).1 at (string_bounded s (i + 1)) in omega arith
 
-  pub name-end : length s ≤ i → name_at s before i ≡ refused 2 (length s)
+  pub name-end : length s ≤ i → name_at s before i ≡ refused Ended (length s)
   unfolding name_at
   name-end h = let z : byte_at s i ≡ 0 = get_or-eq_default s 0 h in rw z (unexpected_end s i h)
 
 -- ---- elements and members, over any way to read a value
 
-module _ (s : List ℕ) (v : ℕ → Parse Node) (within : (i : ℕ) → ValueWithin s i (v i)) (ended : (i : ℕ) → length s ≤ i → v i ≡ refused 2 (length s)) where
+module _ (s : List ℕ) (v : ℕ → Parse Node) (within : (i : ℕ) → ValueWithin s i (v i)) (ended : (i : ℕ) → length s ≤ i → v i ≡ refused Ended (length s)) where
   elements : Reads s sizes (element_at v)
   elements = record { adds = λ before i. go before i (v i) (within i); ended = λ before i h. rw (ended i h) }
     where
@@ -287,7 +290,7 @@ module _ (s : List ℕ) (v : ℕ → Parse Node) (within : (i : ℕ) → ValueWi
 
 -- ---- values
 
-pub value_end : (d : ℕ) (s : List ℕ) (i : ℕ) → length s ≤ i → value_at d s i ≡ refused 2 (length s)
+pub value_end : (d : ℕ) (s : List ℕ) (i : ℕ) → length s ≤ i → value_at d s i ≡ refused Ended (length s)
 value_end d s i h =
     let z : byte_at s i ≡ 0 = get_or-eq_default s 0 h in
     value_leaf d s i (λ q. omega (arith, first_array (byte_at s i) q)) (λ q. omega (arith, first_object (byte_at s i) q)) ∙ rw (scalar_end s i h)

@@ -1,5 +1,6 @@
 -- The answer of Read and the table afterwards (01, "Three services").
 use Rattle.std.specs.Prelude.{ℕ, ◌*◌, ◌/◌, min, cond, List, ◌++◌, length, drop, leb}
+use Rattle.chars.specs.Refusals.{number}
 use Rattle.tokens.specs.Parse.{Parse, refused, parsed}
 use Rattle.syntax.specs.Tree.{Node}
 use Rattle.syntax.specs.Rows.{row_words, size, words}
@@ -29,7 +30,7 @@ rows_in w = w / row_words
 
 -- the answer on text number `which`, with a table of w words: a refusal; 0 with the rows; 8 with the rows needed
 unfoldable pub answer_of : ℕ → ℕ → Parse Node → Answer
-answer_of which w (refused c p) = answer c which p 0
+answer_of which w (refused c p) = answer (number c) which p 0
 answer_of which w (parsed n e) = cond (leb (size n) (rows_in w)) (answer 0 0 0 (size n)) (answer 8 which 0 (size n))
 
 -- "A table whose text was well-formed and had room holds its rows, and the words behind the last row are as found";

@@ -5,11 +5,12 @@ use Rattle.chars.specs.Bytes.{byte_at}
 use Rattle.tokens.specs.Parse.{Parse, refused, parsed, then, unexpected}
 use Rattle.tokens.specs.Space.{skip}
 use Rattle.chars.specs.Strings.{string_at, characters, part}
-use Rattle.tokens.specs.Tokens.{Kind}
+use Rattle.tokens.specs.declared.tokens.Kind.{Kind}
 use Rattle.tokens.specs.Scalars.{first_of, quoted, scalar_at}
 use Rattle.tokens.specs.declared.scalars.First.{First}
 use Rattle.tokens.specs.declared.scalars.First.TheVariants.{Array, Object, Quote, Number, LetterN, LetterF, LetterT, Other}
 use Rattle.syntax.specs.Tree.{Node, scalar, array, object, Nodes, none, add_node, Members, no_member, member, add_member}
+use Rattle.chars.specs.declared.refusals.Code.TheVariants.{TooLong, Ended, NotAllowed, NameTwice, TooDeep}
 
 -- ---- elements and members: one or more, with commas between, up to a closing byte
 
@@ -21,7 +22,7 @@ after_item closing rest s all j =
 
 -- from i on, behind those before; item reads one more. k is at least the bytes left, so that without any the text has ended
 unfoldable pub items_from : {L : Type 0} → ℕ → ℕ → (L → ℕ → Parse L) → List ℕ → L → ℕ → Parse L
-items_from zero closing item s before i = refused 2 (length s)
+items_from zero closing item s before i = refused Ended (length s)
 items_from (suc k) closing item s before i =
     then (item before i) (λ all e. after_item closing (λ j. items_from k closing item s all (skip s (j + 1))) s all (skip s e))
 
@@ -58,7 +59,7 @@ repeated s (member f e v ms) n = same (name_of s f e) n || repeated s ms n
 -- a name at i that none before has; code 6 at its closing quote where one has
 unfoldable pub name_at : List ℕ → Members → ℕ → Parse Kind
 name_at s before i =
-    let r = then (quoted (string_at s (i + 1))) (λ k e. cond (repeated s before (name_of s i e)) (refused 6 (e - 1)) (parsed k e)) in
+    let r = then (quoted (string_at s (i + 1))) (λ k e. cond (repeated s before (name_of s i e)) (refused NameTwice (e - 1)) (parsed k e)) in
     cond (eqb (byte_at s i) 0x22) r (unexpected s i)
 
 -- behind the name from i up to e: a colon and a value
@@ -93,14 +94,14 @@ value_by Other opensArray opensObject s i = leaf_at s i
 
 -- the value at i, with d more brackets allowed to open; code 7 at one too many
 unfoldable pub value_at : ℕ → List ℕ → ℕ → Parse Node
-value_at zero s i = value_by (first_of (byte_at s i)) (λ j. refused 7 j) (λ j. refused 7 j) s i
+value_at zero s i = value_by (first_of (byte_at s i)) (λ j. refused TooDeep j) (λ j. refused TooDeep j) s i
 value_at (suc d) s i = value_by (first_of (byte_at s i)) (λ j. array_at (value_at d s) s j) (λ j. object_at (value_at d s) s j) s i
 
 -- ---- texts
 
 -- nothing but space stands behind the value
 unfoldable pub alone : List ℕ → Node → ℕ → Parse Node
-alone s n e = let j = skip s e in cond (ltb j (length s)) (refused 3 j) (parsed n j)
+alone s n e = let j = skip s e in cond (ltb j (length s)) (refused NotAllowed j) (parsed n j)
 
 -- space, a value and space
 abbrev pub whole_at : ℕ → List ℕ → Parse Node
@@ -108,4 +109,4 @@ whole_at depth s = then (value_at depth s (skip s 0)) (λ n e. alone s n e)
 
 -- a text of at most `bytes` bytes with at most `depth` brackets open at once; code 1 for a longer one
 unfoldable pub read_text : ℕ → ℕ → List ℕ → Parse Node
-read_text bytes depth s = let r = whole_at depth s in cond (ltb bytes (length s)) (refused 1 bytes) r
+read_text bytes depth s = let r = whole_at depth s in cond (ltb bytes (length s)) (refused TooLong bytes) r

@@ -3,7 +3,8 @@ use Rattle.std.specs.Prelude.{ℕ, true, false, List}
 use Rattle.model.specs.Value.{Value, null, boolean, number, string, Values, vnil, vcons, mnil, mcons, array as list, object as record_of}
 use Rattle.model.specs.Value.{Members as ValueMembers}
 use Rattle.chars.specs.Strings.{part}
-use Rattle.tokens.specs.Tokens.{Kind, Null, False, True, Whole, Fractional, Quoted}
+use Rattle.tokens.specs.declared.tokens.Kind.{Kind}
+use Rattle.tokens.specs.declared.tokens.Kind.TheVariants.{Null, False, True, Whole, Fractional, Quoted}
 use Rattle.syntax.specs.Tree.{Node, scalar, array, object, Nodes, none, more, Members, no_member, member}
 use Rattle.syntax.specs.Grammar.{name_of}
 

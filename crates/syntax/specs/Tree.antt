@@ -1,6 +1,6 @@
 -- A value with its places, as a reader sees it.
 use Rattle.std.specs.Prelude.{ℕ}
-use Rattle.tokens.specs.Tokens.{Kind}
+use Rattle.tokens.specs.declared.tokens.Kind.{Kind}
 
 mutual
   pub data Node : Type 0 where

@@ -8,11 +8,13 @@ use Rattle.chars.specs.Bytes.{code_of, escape_of}
 use Rattle.tokens.specs.Parse.{Parse, refused, parsed, unexpected}
 use Rattle.chars.specs.Runs.{run_from, run}
 use Rattle.tokens.specs.Space.{is_space, skip}
-use Rattle.chars.specs.Characters.{stop_at, wrong_at, escape_at, char_from, char_at}
+use Rattle.chars.specs.Characters.{refusal_at, escape_at, char_from, char_at}
 use Rattle.chars.specs.Strings.{string_from, string_at}
-use Rattle.tokens.specs.Tokens.{Kind, Null, False, True, Whole, Fractional, Quoted}
+use Rattle.tokens.specs.declared.tokens.Kind.{Kind}
+use Rattle.tokens.specs.declared.tokens.Kind.TheVariants.{Null, False, True, Whole, Fractional, Quoted}
 use Rattle.tokens.specs.Numbers.{digits_end, whole_end, sign_end, power_at, exponent_at, fraction_at, unsigned_at, number_at}
 use Rattle.tokens.specs.Scalars.{first_of, word_at, scalar_at}
+use Rattle.chars.specs.declared.refusals.Code.TheVariants.{Ended, NotAllowed}
 
 -- what stands at the start of a text
 abbrev reads : String → Parse Kind
@@ -24,19 +26,19 @@ pub integers : (reads "0" ≡ parsed Whole 1)
     × (reads "120," ≡ parsed Whole 3)
     × (reads "01" ≡ parsed Whole 1)
     × (reads "-01" ≡ parsed Whole 2)
-    × (reads "-" ≡ refused 2 1)
-    × (reads "-x" ≡ refused 3 1)
-    × (reads "--1" ≡ refused 3 1)
+    × (reads "-" ≡ refused Ended 1)
+    × (reads "-x" ≡ refused NotAllowed 1)
+    × (reads "--1" ≡ refused NotAllowed 1)
 unfolding run_from run whole_end sign_end power_at exponent_at fraction_at unsigned_at number_at unexpected first_of
 integers = (refl, refl, refl, refl, refl, refl, refl, refl)
 
 -- fractions: a digit stands behind the point
 pub fractions : (reads "1.5" ≡ parsed Fractional 3)
     × (reads "-0.50]" ≡ parsed Fractional 5)
-    × (reads "1." ≡ refused 2 2)
-    × (reads "1.x" ≡ refused 3 2)
-    × (reads "1.e1" ≡ refused 3 2)
-    × (number_at (text "[1.]") 1 ≡ refused 3 3)
+    × (reads "1." ≡ refused Ended 2)
+    × (reads "1.x" ≡ refused NotAllowed 2)
+    × (reads "1.e1" ≡ refused NotAllowed 2)
+    × (number_at (text "[1.]") 1 ≡ refused NotAllowed 3)
 unfolding run_from run whole_end sign_end power_at exponent_at fraction_at unsigned_at number_at unexpected first_of
 fractions = (refl, refl, refl, refl, refl, refl)
 
@@ -45,48 +47,48 @@ pub exponents : (reads "1e+7" ≡ parsed Fractional 4)
     × (reads "1E-2" ≡ parsed Fractional 4)
     × (reads "1.0e0" ≡ parsed Fractional 5)
     × (reads "0e00" ≡ parsed Fractional 4)
-    × (reads "1e" ≡ refused 2 2)
-    × (reads "1e+" ≡ refused 2 3)
-    × (reads "1e+-1" ≡ refused 3 3)
-    × (reads "1ee" ≡ refused 3 2)
+    × (reads "1e" ≡ refused Ended 2)
+    × (reads "1e+" ≡ refused Ended 3)
+    × (reads "1e+-1" ≡ refused NotAllowed 3)
+    × (reads "1ee" ≡ refused NotAllowed 2)
 unfolding run_from run whole_end sign_end power_at exponent_at fraction_at unsigned_at number_at unexpected first_of
 exponents = (refl, refl, refl, refl, refl, refl, refl, refl)
 
 -- words: the first byte that differs is refused, and what stands behind a word is not looked at
 pub words : (reads "true" ≡ parsed True 4)
-    × (reads "tru" ≡ refused 2 3)
-    × (reads "trux" ≡ refused 3 3)
+    × (reads "tru" ≡ refused Ended 3)
+    × (reads "trux" ≡ refused NotAllowed 3)
     × (reads "truex" ≡ parsed True 4)
-    × (reads "True" ≡ refused 3 0)
+    × (reads "True" ≡ refused NotAllowed 0)
     × (reads "null" ≡ parsed Null 4)
-    × (reads "nul" ≡ refused 2 3)
+    × (reads "nul" ≡ refused Ended 3)
     × (reads "false" ≡ parsed False 5)
-    × (reads "fals " ≡ refused 3 4)
+    × (reads "fals " ≡ refused NotAllowed 4)
 unfolding unexpected first_of word_at
 words = (refl, refl, refl, refl, refl, refl, refl, refl, refl)
 
 -- strings: with both quotes
 pub strings : (reads "\"a\"" ≡ parsed Quoted 3)
     × (reads "\"\"" ≡ parsed Quoted 2)
-    × (reads "\"" ≡ refused 2 1)
-    × (reads "\"\n\"" ≡ refused 3 1)
-    × (reads "\"\\x\"" ≡ refused 3 2)
-unfolding code_of escape_of stop_at wrong_at escape_at char_from char_at string_from string_at first_of
+    × (reads "\"" ≡ refused Ended 1)
+    × (reads "\"\n\"" ≡ refused NotAllowed 1)
+    × (reads "\"\\x\"" ≡ refused NotAllowed 2)
+unfolding code_of escape_of refusal_at escape_at char_from char_at string_from string_at first_of
 strings = (refl, refl, refl, refl, refl)
 
 -- no such value begins there
-pub none : (reads "" ≡ refused 2 0)
-    × (reads "+1" ≡ refused 3 0)
-    × (reads ".5" ≡ refused 3 0)
-    × (reads "[1]" ≡ refused 3 0)
-    × (scalar_at (text "1") 1 ≡ refused 2 1)
+pub none : (reads "" ≡ refused Ended 0)
+    × (reads "+1" ≡ refused NotAllowed 0)
+    × (reads ".5" ≡ refused NotAllowed 0)
+    × (reads "[1]" ≡ refused NotAllowed 0)
+    × (scalar_at (text "1") 1 ≡ refused Ended 1)
 unfolding unexpected first_of
 none = (refl, refl, refl, refl, refl)
 
 -- a byte order mark, EF BB BF; 80; 0
-pub bytes : (scalar_at (0xEF ∷ 0xBB ∷ 0xBF ∷ 0x31 ∷ []) 0 ≡ refused 3 0)
-    × (scalar_at (0x80 ∷ []) 0 ≡ refused 3 0)
-    × (scalar_at (0 ∷ []) 0 ≡ refused 3 0)
+pub bytes : (scalar_at (0xEF ∷ 0xBB ∷ 0xBF ∷ 0x31 ∷ []) 0 ≡ refused NotAllowed 0)
+    × (scalar_at (0x80 ∷ []) 0 ≡ refused NotAllowed 0)
+    × (scalar_at (0 ∷ []) 0 ≡ refused NotAllowed 0)
 unfolding unexpected first_of
 bytes = (refl, refl, refl)
 

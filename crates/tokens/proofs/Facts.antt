@@ -1,7 +1,7 @@
 -- What the crates above cite.
 
 -- bounds of what is read, and a byte that is not allowed
-pub use Rattle.tokens.proofs.Bounds.{Bounded, unexpected_bounded, unexpected_end, unexpected_in, unexpected_ways}
+pub use Rattle.tokens.proofs.Bounds.{Bounded, unexpected_bounded, unexpected_end, unexpected_in, unexpected_read, unexpected_ways}
 -- parts of a text, and runs of bytes in them
 pub use Rattle.tokens.proofs.Pieces.{part_cons, part_join, part_none, part_one, run_all, run_some}
 -- numbers

@@ -4,7 +4,8 @@ use Rattle.model.specs.Value.{is_digit}
 use Rattle.chars.specs.Bytes.{byte_at}
 use Rattle.chars.specs.Runs.{run}
 use Rattle.tokens.specs.Parse.{Parse, parsed, unexpected}
-use Rattle.tokens.specs.Tokens.{Kind, Whole, Fractional}
+use Rattle.tokens.specs.declared.tokens.Kind.{Kind}
+use Rattle.tokens.specs.declared.tokens.Kind.TheVariants.{Whole, Fractional}
 
 -- the place behind the digits at i
 abbrev pub digits_end : List ℕ → ℕ → ℕ

@@ -1,14 +1,14 @@
 -- What the first byte of a value begins, and the values that hold no other (01, "Rows").
-use Rattle.std.specs.Prelude.{ℕ, ◌+◌, List, [], ◌∷◌, cond, ◌||◌, eqb}
+use Rattle.std.specs.Prelude.{ℕ, ◌+◌, List, [], ◌∷◌, cond, ◌||◌, eqb, Ok, Err}
 use Rattle.model.specs.Text.{text}
 use Rattle.model.specs.Value.{is_digit}
 use Rattle.chars.specs.Bytes.{byte_at}
 use Rattle.tokens.specs.Parse.{Parse, refused, parsed, unexpected}
 use Rattle.chars.specs.Strings.{string_at}
-use Rattle.tokens.specs.Tokens.{Kind, Null, False, True, Quoted}
+use Rattle.tokens.specs.declared.tokens.Kind.{Kind}
+use Rattle.tokens.specs.declared.tokens.Kind.TheVariants.{Null, False, True, Quoted}
 use Rattle.tokens.specs.Numbers.{number_at}
-use Rattle.chars.specs.declared.strings.Scan.{Scan}
-use Rattle.chars.specs.declared.strings.Scan.TheVariants.{Ends, Stopped}
+use Rattle.chars.specs.Refusals.{Reading}
 use Rattle.tokens.specs.declared.scalars.First.{First}
 use Rattle.tokens.specs.declared.scalars.First.TheVariants.{Array, Object, Quote, Number, LetterN, LetterF, LetterT, Other}
 
@@ -29,9 +29,9 @@ word_at k [] s i = parsed k i
 word_at k (c ∷ w) s i = let r = word_at k w s (i + 1) in cond (eqb (byte_at s i) c) r (unexpected s i)
 
 -- a string, by where it ends
-abbrev pub quoted : Scan → Parse Kind
-quoted (Ends e) = parsed Quoted e
-quoted (Stopped c p) = refused c p
+abbrev pub quoted : Reading ℕ → Parse Kind
+quoted (Ok e) = parsed Quoted e
+quoted (Err r) = refused r.code r.place
 
 -- the value at i that holds no other
 abbrev pub scalar_by : First → List ℕ → ℕ → Parse Kind

@@ -1,16 +1,16 @@
 -- What the theorems say of a value that holds no other: the bytes from f up to e spell it.
-use Rattle.std.specs.Prelude.{ℕ, ◌+◌, ◌≡◌, List, true, false}
+use Rattle.std.specs.Prelude.{ℕ, ◌+◌, ◌≡◌, List, true, false, Ok}
 use Rattle.model.specs.Text.{text}
 use Rattle.model.specs.Value.{IsNumber, is_integer}
 use Rattle.chars.specs.Bytes.{byte_at}
 use Rattle.chars.specs.Strings.{string_at, part}
-use Rattle.tokens.specs.Tokens.{Kind, Null, False, True, Whole, Fractional, Quoted}
-use Rattle.chars.specs.declared.strings.Scan.TheVariants.{Ends}
+use Rattle.tokens.specs.declared.tokens.Kind.{Kind}
+use Rattle.tokens.specs.declared.tokens.Kind.TheVariants.{Null, False, True, Whole, Fractional, Quoted}
 
 -- a string or a name with both its quotes, its opening one at f
 pub record IsQuoted (s : List ℕ) (f e : ℕ) : Type 0 where
   pub opens : byte_at s f ≡ 0x22
-  pub ends : string_at s (f + 1) ≡ Ends e
+  pub ends : string_at s (f + 1) ≡ Ok e
 
 abbrev pub Spells : Kind → List ℕ → ℕ → ℕ → Type 0
 Spells Null s f e = part s f e ≡ text "null"

@@ -8,4 +8,4 @@ mod tokens;
 
 pub use scalars::{First, first_at, integer_end, scalar};
 pub use space::skip;
-pub use tokens::{Token, unexpected};
+pub use tokens::{Kind, Token, unexpected};

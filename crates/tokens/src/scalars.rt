@@ -1,17 +1,17 @@
 // What a value begins with, and the values that hold no other (01, "Rows").
 ghost use Rattle.std.specs.Prelude.{◌≡◌, ◌<◌, ◌+◌, length};
-ghost use Rattle.tokens.specs.Tokens.{token_of, kind_number, Kind};
+ghost use Rattle.tokens.specs.Tokens.{token_of};
 ghost use Rattle.chars.specs.Bytes.{byte_at};
 ghost use Rattle.tokens.specs.Scalars.{first_of, word_at, quoted, scalar_by};
 ghost use Rattle.tokens.specs.Integers.{digits_from, integer_end};
 ghost use Rattle.chars.specs.Strings.{string_at};
 
 use crate::numbers::{digits, number};
-use crate::tokens::{Token, unexpected};
-use chars::{Scan, peek, string_end};
+use crate::tokens::{Kind, Token, unexpected};
+use chars::{Reading, peek, string_end};
 
 // What the first byte of a value begins.
-#[derive(Clone, Copy)]
+#[derive(Clone, Copy, Debug, PartialEq, Eq)]
 pub enum First {
     Array,
     Object,
@@ -50,47 +50,48 @@ pub fn first_at(text: &[u8], at: usize) -> First
 }
 
 // The bytes of a word stand at a place.
-fn literal(text: &[u8], at: usize, word: &[u8], kind: u32) -> Token
+fn literal(text: &[u8], at: usize, word: &[u8], kind: Kind) -> Reading<Token>
     requires { at < length text.now }
-    ensures { (k : Kind) → kind ≡ kind_number k → result ≡ token_of (word_at k word.now text.now at) }
+    ensures { result ≡ token_of (word_at kind word.now text.now at) }
 {
     let mut i = at;
     let mut k: usize = 0;
     while k < word.len() {
         if peek(text, i) != word[k] {
-            return unexpected(text, i);
+            return Err(unexpected(text, i));
         }
         i += 1;
         k += 1;
     }
-    Token::Taken { kind, end: i }
+    Ok(Token { kind, end: i })
 }
 
 // The string whose opening quote stands at a place.
-fn string(text: &[u8], at: usize) -> Token
+fn string(text: &[u8], at: usize) -> Reading<Token>
     requires { at < length text.now }
     ensures { result ≡ token_of (quoted (string_at text.now (at + 1))) }
 {
-    match string_end(text, at + 1) {
-        Scan::Ends(end) => Token::Taken { kind: 6, end },
-        Scan::Stopped { code, place } => Token::Broken { code, place },
-    }
+    let end = string_end(text, at + 1)?;
+    Ok(Token {
+        kind: Kind::Quoted,
+        end,
+    })
 }
 
 // The value at a place that holds no other, by what it begins with.
-pub fn scalar(first: First, text: &[u8], at: usize) -> Token
+pub fn scalar(first: First, text: &[u8], at: usize) -> Reading<Token>
     ensures { result ≡ token_of (scalar_by first text.now at) }
 {
     if at >= text.len() {
-        return unexpected(text, at);
+        return Err(unexpected(text, at));
     }
     match first {
         First::Quote => string(text, at),
         First::Number => number(text, at),
-        First::LetterN => literal(text, at, b"null", 1),
-        First::LetterF => literal(text, at, b"false", 2),
-        First::LetterT => literal(text, at, b"true", 3),
-        _ => unexpected(text, at),
+        First::LetterN => literal(text, at, b"null", Kind::Null),
+        First::LetterF => literal(text, at, b"false", Kind::False),
+        First::LetterT => literal(text, at, b"true", Kind::True),
+        First::Array | First::Object | First::Other => Err(unexpected(text, at)),
     }
 }
 

@@ -2,6 +2,8 @@
 ghost use Rattle.std.specs.Prelude.{◌≡◌};
 ghost use Rattle.tokens.specs.Space.{is_space, skip};
 
+use chars::run_end;
+
 fn is_space(b: u8) -> bool
     ensures { result ≡ is_space b }
 {
@@ -18,12 +20,5 @@ fn is_space(b: u8) -> bool
 pub fn skip(text: &[u8], at: usize) -> usize
     ensures { result ≡ skip text.now at }
 {
-    let mut i = at;
-    while i < text.len() {
-        if !is_space(text[i]) {
-            return i;
-        }
-        i += 1;
-    }
-    i
+    run_end(text, at, is_space)
 }

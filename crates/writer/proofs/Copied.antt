@@ -22,6 +22,7 @@ use Rattle.grammar.proofs.Facts.{three_bits, four_bits, utf8_only, At, Spelled, 
 use Rattle.grammar.proofs.Facts.{char_good, lang_char}
 use Rattle.writer.specs.Spell.{is_escaped, letter_of, spell_char}
 use Rattle.writer.specs.Runs.{is_ordinary}
+use Rattle.std.specs.Prelude.{Ok}
 
 -- ---- characters that are not escaped
 
@@ -109,7 +110,7 @@ char_most (surrogates x h y l) = omega arith
 -- ---- by its place
 
 module _ (s : List ℕ) (i v j : ℕ) where
-  pub char_is : char_at s i ≡ Char v j → IsChar (part s i j) v
+  pub char_is : char_at s i ≡ Ok (Char v j) → IsChar (part s i j) v
   char_is q =
       by_test (eqb (byte_at s i) 0x22) (λ t. never (cc (char_quote s i (eqb-true _ _ t))))
       (λ t. let n = char_next s i v j q in
@@ -117,5 +118,5 @@ module _ (s : List ℕ) (i v j : ℕ) where
       let h : Spelled (Lang char_tree) s i j v = subst (Stepped char_tree s i) z (walk_sound char_tree char_good s i (omega arith)) in
       lang_char (part s i j) v h.spells)
 
-  pub value_most : char_at s i ≡ Char v j → v ≤ 0x10FFFF
+  pub value_most : char_at s i ≡ Ok (Char v j) → v ≤ 0x10FFFF
   value_most q = char_most (char_is q)

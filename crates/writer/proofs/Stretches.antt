@@ -11,8 +11,7 @@ use borrow.Author.Tests.{eqb-true, eqb-false}
 use Rattle.model.specs.Text.{all}
 use Rattle.model.proofs.Basics.{never, and_ways, by_test}
 use Rattle.chars.specs.declared.characters.Step.{Step}
-use Rattle.chars.specs.declared.characters.Step.TheVariants.{Char, Quote, Refused}
-use Rattle.chars.specs.declared.strings.Scan.TheVariants.{Ends}
+use Rattle.chars.specs.declared.characters.Step.TheVariants.{Char, Quote}
 use Rattle.chars.specs.Bytes.{byte_at}
 use Rattle.chars.specs.Characters.{char_at}
 use Rattle.chars.specs.Runs.{run}
@@ -27,35 +26,38 @@ use Rattle.writer.specs.Runs.{is_ordinary, ordinary_end}
 use Rattle.writer.specs.Tokens.{string_bytes}
 use Rattle.writer.proofs.runs.Laws.{length_part}
 use Rattle.writer.proofs.Copied.{not_ordinary, char_short, char_copied, char_is}
+use Rattle.std.specs.Prelude.{Ok, Err}
+use Rattle.chars.specs.Refusals.{Reading}
+use Rattle.chars.specs.declared.refusals.Refusal.{Refusal}
 
 -- from i on: the string goes on behind the stretch, which is copied
 pub record Stretch (s : List ℕ) (i e : ℕ) : Type 0 where
   pub ahead : i ≤ ordinary_end s i
-  pub goes-on : string_at s (ordinary_end s i) ≡ Ends e
+  pub goes-on : string_at s (ordinary_end s i) ≡ Ok e
   pub copied : spell_chars (chars_at s i) ≡ part s i (ordinary_end s i) ++ spell_chars (chars_at s (ordinary_end s i))
 
 -- ---- what cannot stand in a string that ends, and what ends it
 
-pub not_refused : (s : List ℕ) (i c p e : ℕ) → char_at s i ≡ Refused c p → string_at s i ≡ Ends e → ⊥
-not_refused s i c p e q h = never (cc (string_stop s i c p q))
+pub not_refused : (s : List ℕ) (i e : ℕ) {r : Refusal} → char_at s i ≡ Err r → string_at s i ≡ Ok e → ⊥
+not_refused s i e {r} q h = never (cc (string_stop s i r q))
 
-pub quote_ends : (s : List ℕ) (i e : ℕ) → char_at s i ≡ Quote → string_at s i ≡ Ends e → (e ≡ i + 1) × (chars_at s i ≡ [])
+pub quote_ends : (s : List ℕ) (i e : ℕ) → char_at s i ≡ Ok Quote → string_at s i ≡ Ok e → (e ≡ i + 1) × (chars_at s i ≡ [])
 quote_ends s i e q h = (cc (string_quote s i q), chars_step s i ∙ ap (values_on (chars_at s)) q)
 
-pub quote_byte : (s : List ℕ) (i e : ℕ) → char_at s i ≡ Quote → string_at s i ≡ Ends e → byte_at s i ≡ 0x22
+pub quote_byte : (s : List ℕ) (i e : ℕ) → char_at s i ≡ Ok Quote → string_at s i ≡ Ok e → byte_at s i ≡ 0x22
 quote_byte s i e q h = let z : e - 1 ≡ i = omega (arith, (quote_ends s i e q h).0) in rw z at (string_close s i e h).2
 
 -- what holds at the closing quote, and before a character where it holds behind it, holds in all of the string
-each_char : (s : List ℕ) (e : ℕ) (P : ℕ → Type 0) → ((i : ℕ) → string_at s i ≡ Ends e → char_at s i ≡ Quote → P i)
-    → ((i v j : ℕ) → string_at s i ≡ Ends e → char_at s i ≡ Char v j → P j → P i) → (i : ℕ) → string_at s i ≡ Ends e → P i
+each_char : (s : List ℕ) (e : ℕ) (P : ℕ → Type 0) → ((i : ℕ) → string_at s i ≡ Ok e → char_at s i ≡ Ok Quote → P i)
+    → ((i v j : ℕ) → string_at s i ≡ Ok e → char_at s i ≡ Ok (Char v j) → P j → P i) → (i : ℕ) → string_at s i ≡ Ok e → P i
 each_char s e P last more i h = from (length s) i (omega arith) h
   where
-    step : (i : ℕ) → ((j : ℕ) → i < j → string_at s j ≡ Ends e → P j) → string_at s i ≡ Ends e → (o : Step) → char_at s i ≡ o → P i
-    step i f h (Char v j) q = more i v j h q (f j (char_next s i v j q).0 (sym (string_char s i v j q) ∙ h))
-    step i f h Quote q = last i h q
-    step i f h (Refused c p) q = absurd (not_refused s i c p e q h)
+    step : (i : ℕ) → ((j : ℕ) → i < j → string_at s j ≡ Ok e → P j) → string_at s i ≡ Ok e → (o : Reading Step) → char_at s i ≡ o → P i
+    step i f h (Ok (Char v j)) q = more i v j h q (f j (char_next s i v j q).0 (sym (string_char s i v j q) ∙ h))
+    step i f h (Ok Quote) q = last i h q
+    step i f h (Err r) q = absurd (not_refused s i e q h)
 
-    from : (k i : ℕ) → length s ≤ i + k → string_at s i ≡ Ends e → P i
+    from : (k i : ℕ) → length s ≤ i + k → string_at s i ≡ Ok e → P i
     from zero i l h = absurd (omega (arith, string_bounds s i e h))
     from (suc k) i l h = step i (λ j m g. from k j (omega arith) g) h (char_at s i) refl
 
@@ -64,7 +66,7 @@ each_char s e P last more i h = from (length s) i (omega arith) h
 part_length : (s : List ℕ) (i j : ℕ) → i ≤ j → j ≤ length s → i + length (part s i j) ≡ j
 part_length s i j l m = omega (arith, length_part s i j l (omega arith))
 
-pub chars_fit : (s : List ℕ) (i e : ℕ) → string_at s i ≡ Ends e → i + length (spell_chars (chars_at s i)) < e
+pub chars_fit : (s : List ℕ) (i e : ℕ) → string_at s i ≡ Ok e → i + length (spell_chars (chars_at s i)) < e
 chars_fit s i e h =
     each_char s e (λ i. i + length (spell_chars (chars_at s i)) < e) (λ i h q. let r = quote_ends s i e q h in rw r.1 (omega arith))
     (λ i v j h q m. let n = char_next s i v j q in
@@ -87,13 +89,13 @@ part_at : (k : ℕ) (s : List ℕ) (i j : ℕ) → j ≡ i + k → j ≤ length 
 part_at zero s i j z l = let e : j ≡ i = omega arith in rw (e, part_none s i) (omega arith)
 part_at (suc k) s i j z l = rw (part_cons s i j (omega arith) (omega arith)) (refl, omega arith, part_at k s (i + 1) j (omega arith) l)
 
-module _ (s : List ℕ) (i e : ℕ) (h : string_at s i ≡ Ends e) where
+module _ (s : List ℕ) (i e : ℕ) (h : string_at s i ≡ Ok e) where
   -- no byte, at a backslash or a quote
   none : is_ordinary (byte_at s i) ≡ false → Stretch s i e
   none f = let z = run_stop is_ordinary s i f in record { ahead = omega arith; goes-on = rw z h; copied = rw (z, part_none s i) }
 
   -- a character that is copied, and more
-  more : (v j : ℕ) → char_at s i ≡ Char v j → (byte_at s i ≡ 0x5C → ⊥) → Stretch s j e → Stretch s i e
+  more : (v j : ℕ) → char_at s i ≡ Ok (Char v j) → (byte_at s i ≡ 0x5C → ⊥) → Stretch s j e → Stretch s i e
   more v j q n r =
       let b = char_next s i v j q in
       let m = part_length s i j (omega arith) b.1 in
@@ -107,7 +109,7 @@ module _ (s : List ℕ) (i e : ℕ) (h : string_at s i ≡ Ends e) where
         copied = rw (z, chars_char s i v j q, r.copied, c.0, ← append_assoc, part_join s i j k (omega arith) r.ahead);
       }
 
-pub stretch : (s : List ℕ) (i e : ℕ) → string_at s i ≡ Ends e → Stretch s i e
+pub stretch : (s : List ℕ) (i e : ℕ) → string_at s i ≡ Ok e → Stretch s i e
 stretch s i e h =
     each_char s e (λ i. Stretch s i e)
     (λ i h q. none s i e h (not_ordinary (inl (quote_byte s i e q h))))

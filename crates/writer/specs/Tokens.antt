@@ -1,11 +1,9 @@
 -- For private contracts: the tokens of a text, and what is written for them.
-use Rattle.std.specs.Prelude.{ℕ, ◌+◌, ◌≤◌, ◌<◌, ◌≡◌, true, false, cond, ◌||◌, List, [], ◌∷◌, ◌++◌, length, eqb}
-use Rattle.chars.specs.declared.characters.Step.{Step}
-use Rattle.chars.specs.declared.characters.Step.TheVariants.{Char, Quote, Refused}
-use Rattle.chars.specs.declared.strings.Scan.{Scan}
-use Rattle.chars.specs.declared.strings.Scan.TheVariants.{Ends, Stopped}
+use Rattle.std.specs.Prelude.{ℕ, ◌+◌, ◌≤◌, ◌<◌, ◌≡◌, true, false, cond, ◌||◌, List, [], ◌∷◌, ◌++◌, length, eqb, Option, Some, None, Ok, Err}
+use Rattle.chars.specs.declared.characters.Character.{Character}
+use Rattle.chars.specs.Refusals.{Reading}
 use Rattle.chars.specs.Bytes.{byte_at}
-use Rattle.chars.specs.Characters.{char_at}
+use Rattle.chars.specs.Characters.{character_at}
 use Rattle.tokens.specs.Space.{is_space}
 use Rattle.chars.specs.Strings.{string_at, chars_at, part}
 use Rattle.tokens.specs.Spelling.{IsQuoted}
@@ -18,28 +16,26 @@ use Rattle.writer.specs.declared.pieces.Piece.{Piece}
 -- ---- a piece of a string, at i
 
 -- a character that an escape spells: the place behind it, and what is written for it
-abbrev pub next_of : ℕ → Step → ℕ
-next_of i (Char v j) = j
-next_of i Quote = i
-next_of i (Refused c p) = i
+abbrev pub next_of : ℕ → Option Character → ℕ
+next_of i (Some c) = c.next
+next_of i None = i
 
-abbrev pub bytes_of : Step → List ℕ
-bytes_of (Char v j) = spell_char v
-bytes_of Quote = []
-bytes_of (Refused c p) = []
+abbrev pub bytes_of : Option Character → List ℕ
+bytes_of (Some c) = spell_char c.value
+bytes_of None = []
 
 -- an escape; or the bytes that are copied, up to the next escape or the closing quote
 unfoldable pub stretch_end : List ℕ → ℕ → ℕ
-stretch_end s i = cond (eqb (byte_at s i) 0x5C) (next_of i (char_at s i)) (ordinary_end s i)
+stretch_end s i = cond (eqb (byte_at s i) 0x5C) (next_of i (character_at s i)) (ordinary_end s i)
 
 unfoldable pub stretch_bytes : List ℕ → ℕ → List ℕ
-stretch_bytes s i = cond (eqb (byte_at s i) 0x5C) (bytes_of (char_at s i)) (part s i (ordinary_end s i))
+stretch_bytes s i = cond (eqb (byte_at s i) 0x5C) (bytes_of (character_at s i)) (part s i (ordinary_end s i))
 
 -- ---- one token, at i
 
-abbrev pub end_of : Scan → ℕ
-end_of (Ends e) = e
-end_of (Stopped c p) = p
+abbrev pub end_of : Reading ℕ → ℕ
+end_of (Ok e) = e
+end_of (Err r) = r.place
 
 -- a string or a name: the place behind it, and what is written for it
 abbrev pub string_end : List ℕ → ℕ → ℕ

@@ -6,10 +6,10 @@ ghost use Rattle.writer.specs.Tokens.{stretch_end, stretch_bytes, string_end, st
 
 use crate::characters::{char_len, write_char};
 use crate::runs::{copy_atom, copy_ordinary, is_structural, ordinary_end};
-use chars::{Step, char_at, peek};
+use chars::{character_at, peek};
 
 // The place behind a token in the text, and how many bytes are written for it.
-#[derive(Clone, Copy)]
+#[derive(Clone, Copy, Debug, PartialEq, Eq)]
 pub struct Piece {
     pub next: usize,
     pub len: usize,
@@ -26,12 +26,12 @@ fn measure_stretch(text: &[u8], at: usize) -> Piece
             len: end - at,
         };
     }
-    match char_at(text, at) {
-        Step::Char { value, next } => Piece {
-            next,
-            len: char_len(value),
+    match character_at(text, at) {
+        Some(character) => Piece {
+            next: character.next,
+            len: char_len(character.value),
         },
-        _ => Piece { next: at, len: 0 },
+        None => Piece { next: at, len: 0 },
     }
 }
 
@@ -48,12 +48,12 @@ fn write_stretch(text: &[u8], at: usize, out: &mut [u8]) -> Piece
             len: end - at,
         };
     }
-    match char_at(text, at) {
-        Step::Char { value, next } => Piece {
-            next,
-            len: write_char(value, out),
+    match character_at(text, at) {
+        Some(character) => Piece {
+            next: character.next,
+            len: write_char(character.value, out),
         },
-        _ => Piece { next: at, len: 0 },
+        None => Piece { next: at, len: 0 },
     }
 }
 

@@ -1,8 +1,11 @@
 // Runs of bytes that are copied as they stand.
-ghost use Rattle.std.specs.Prelude.{◌≡◌, ◌+◌, ◌≤◌, ◌<◌, length};
+ghost use Rattle.std.specs.Prelude.{◌≡◌, ◌+◌, ◌≤◌, ℕ, Bool, length};
+ghost use Rattle.chars.specs.Runs.{run, Answers};
 ghost use Rattle.chars.specs.Strings.{part};
 ghost use Rattle.writer.specs.Compact.{over};
-ghost use Rattle.writer.specs.Runs.{is_ordinary, is_structural, is_atom, ordinary_end, atom_end};
+ghost use Rattle.writer.specs.Runs.{RoomForRun, is_ordinary, is_structural, is_atom, ordinary_end, atom_end};
+
+use chars::run_end;
 
 fn is_ordinary(b: u8) -> bool
     ensures { result ≡ is_ordinary b }
@@ -45,14 +48,21 @@ fn is_atom(b: u8) -> bool
 pub fn ordinary_end(text: &[u8], at: usize) -> usize
     ensures { result ≡ ordinary_end text.now at }
 {
-    let mut i = at;
-    while i < text.len() {
-        if !is_ordinary(text[i]) {
-            return i;
-        }
-        i += 1;
+    run_end(text, at, is_ordinary)
+}
+
+// Copies the run of bytes at a place that pass the test, and tells the place behind it.
+fn copy_run<F: Fn(u8) -> bool>(text: &[u8], at: usize, out: &mut [u8], passes: F) -> usize
+    requires callable { F.IsAlwaysCallable passes }
+    requires room { RoomForRun (F.post passes) text.now at (length out.old) }
+    ensures value { (p : ℕ → Bool) → Answers (F.post passes) p → result ≡ run p text.now at }
+    ensures out_after { (p : ℕ → Bool) → Answers (F.post passes) p → out.new ≡ over (part text.now at (run p text.now at)) out.old }
+{
+    let end = run_end(text, at, passes);
+    if let Some(bytes) = text.get(at..end) {
+        out[..bytes.len()].copy_from_slice(bytes);
     }
-    i
+    end
 }
 
 // Copies these bytes, and tells the place behind them.
@@ -61,16 +71,7 @@ pub fn copy_ordinary(text: &[u8], at: usize, out: &mut [u8]) -> usize
     ensures value { result ≡ ordinary_end text.now at }
     ensures out_after { out.new ≡ over (part text.now at (ordinary_end text.now at)) out.old }
 {
-    let mut i = at;
-    while i < text.len() {
-        let b = text[i];
-        if !is_ordinary(b) {
-            return i;
-        }
-        out[i - at] = b;
-        i += 1;
-    }
-    i
+    copy_run(text, at, out, is_ordinary)
 }
 
 // Copies the number or literal at a place, and tells the place behind it.
@@ -79,14 +80,5 @@ pub fn copy_atom(text: &[u8], at: usize, out: &mut [u8]) -> usize
     ensures value { result ≡ atom_end text.now at }
     ensures out_after { out.new ≡ over (part text.now at (atom_end text.now at)) out.old }
 {
-    let mut i = at;
-    while i < text.len() {
-        let b = text[i];
-        if !is_atom(b) {
-            return i;
-        }
-        out[i - at] = b;
-        i += 1;
-    }
-    i
+    copy_run(text, at, out, is_atom)
 }

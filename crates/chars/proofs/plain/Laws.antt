@@ -15,7 +15,7 @@ use Rattle.chars.specs.Strings.{string_at, characters}
 use Rattle.chars.specs.Plain.{is_plain, plain_end}
 use Rattle.model.specs.Text.{same}
 use Rattle.chars.proofs.bytes.Laws.{both, and_ways}
-use Rattle.chars.proofs.Runs.{run-from}
+use Rattle.chars.proofs.runs.Laws.{run-from}
 use Rattle.chars.proofs.characters.Utf8.{from_ascii}
 use Rattle.chars.proofs.strings.Laws.{string_char, chars_char, differ}
 use Rattle.std.specs.Prelude.{Ok}

@@ -1,55 +1,23 @@
 -- The text of a day, on plain values: the year and the month of its count, its digits, and its number. A signed number is read back
 -- through its bits.
-use Prim.Native.Nat.{ℕ, suc, ◌+◌, ◌*◌, ◌-◌, ◌/◌, ◌%◌, ◌≤◌, ◌<◌}
-use mathlib.Core.Path.{◌≡◌, refl, sym, ap, ap₂, subst, ◌∙◌}
-use mathlib.Core.Bool.{true, false, not, ◌&&◌}
+use Prim.Native.Nat.{ℕ, ◌+◌, ◌*◌, ◌-◌, ◌/◌, ◌%◌, ◌≤◌, ◌<◌}
+use mathlib.Core.Path.{◌≡◌, refl, sym, ap, subst, ◌∙◌}
+use mathlib.Core.Bool.{true, ◌&&◌}
 use mathlib.Core.List.{List, [], ◌∷◌}
 use native.Mathlib.Omega.{arith}
-use lib.Dec.{T, leb, ltb}
-use lib.IntN.{ℤ, pos, negsuc, nat_abs, sub_ℕ, ◌-ℤ◌, +ℤ-neg_ℤ_cancel}
-use lib.ListN.{replicate}
-use lib.Signed.{lt_z, le_z, non_neg}
-use mir.Syntax.{w32}
-use mir.Val.{Fits, SFits, to_z, of_z}
-use mir.ValLaws.{to_z-of_z}
-use borrow.Author.Tests.{leb-true, leb-false, le-leb, le-ltb, lt-ltb, ltb-false}
+use lib.IntN.{ℤ, pos, negsuc, sub_ℕ, ◌-ℤ◌}
+use lib.Signed.{◌≤ℤ◌}
+use Rattle.std.proofs.lemmas.Int.{ints}
+use borrow.Author.Tests.{le-leb}
 use Rattle.model.specs.Value.{is_digit}
 use Rattle.model.specs.Calendar.{Day, on, in_calendar, first_years, first_months, day_count}
 use Rattle.model.specs.Date.{day_of}
-use Rattle.model.proofs.Basics.{by_test, clash}
 use Rattle.model.proofs.Days.{on_calendar}
 use Rattle.model.proofs.Differences.{sub_back}
-use Rattle.model.proofs.DayNumbers.{days_most, years_most, years_few, months_most, months_few, year_days, day_at_in, day_at_count}
+use Rattle.model.proofs.DayNumbers.{days_most, year_days, day_at_in, day_at_count}
 use Rattle.model.proofs.DayNumbers.{number_count, least_number, greatest_number}
-use Rattle.date.specs.Days.{is_day_number, WritesDay, DayText}
+use Rattle.date.specs.Days.{is_day_number, WritesDay}
 use Rattle.date.specs.Spelling.{InYear, InMonth, Spells}
-
--- ---- the year y of the count n; r days are before the next
-
-pub year_first : (n : ℕ) → first_years (n / 366) ≤ n
-year_first n = omega (arith, years_most (n / 366))
-
-module _ (n y : ℕ) (few : n ≤ 3652424) (begins : first_years y ≤ n) where
-  pub year_small : y ≤ 9999
-  year_small = years_few y n begins few
-
-  pub year_is : (r : ℕ) → r ≡ first_years (y + 1) → n < r → InYear n y
-  year_is r told h = record { small = year_small; begins = begins; ends = omega arith }
-
--- ---- the month m of the count n in the year y; r of its days are before the next
-
-module _ (y n : ℕ) (few : n < first_months y 12) where
-  pub month_first : (1 ≤ n / 31 + 1) × (first_months y (n / 31 + 1 - 1) ≤ n)
-  month_first = let e : n / 31 + 1 - 1 ≡ n / 31 = omega arith in (omega arith, rw e (omega (arith, months_most y (n / 31))))
-
-  module _ (m : ℕ) (begins : first_months y (m - 1) ≤ n) where
-    pub month_small : m ≤ 12
-    month_small = months_few y m n begins few
-
-    pub month_is : 1 ≤ m → (r : ℕ) → r ≡ first_months y (m + 1 - 1) → n < r → InMonth y n m
-    month_is some r told h =
-        let e : m + 1 - 1 ≡ m = omega arith in
-        record { first = some; last = month_small; begins = begins; ends = omega (arith, ap (first_months y) e) }
 
 -- ---- digits
 
@@ -97,93 +65,19 @@ module _ (n y : ℕ) (year : InYear n y) (a : ℕ) (p : a ≡ first_years y) whe
     pub day_in : in_calendar (on y m (n - a - b + 1)) ≡ true
     day_in = rw q (day_at_in y m (n - a) month.first month.last month.begins month.ends)
 
-    day-count : day_count (on y m (n - a - b + 1)) ≡ n
-    day-count = rw q (day_at_count y m (n - a) month.first month.last month.begins month.ends ∙ omega (arith, year.begins))
-
-    pub writes : (l : List ℕ) → Spells (on y m (n - a - b + 1)) l → WritesDay (sub_ℕ n 719528) l
-    writes l s = record {
-      long = s.long;
-      is-day = s.is-day;
-      number = number_count (day_of l) ∙ ap (λ (k : ℕ). sub_ℕ k 719528) (ap day_count s.is ∙ day-count);
-    }
+    pub count_back : day_count (on y m (n - a - b + 1)) ≡ n
+    count_back = rw q (day_at_count y m (n - a) month.first month.last month.begins month.ends ∙ omega (arith, year.begins))
 
 -- ---- the number z
 
--- a number as it is read back
-abbrev plain : ℤ → ℤ
-plain z = to_z w32 (of_z w32 z)
+-- of a day that is spelled
+pub writes : (x : Day) (l : List ℕ) (z : ℤ) → Spells x l → pos (day_count x) -ℤ pos 719528 ≡ z → WritesDay z l
+writes x l z s e = record {
+  long = s.long;
+  is-day = s.is-day;
+  number = number_count (day_of l) ∙ ap (λ (k : ℕ). sub_ℕ k 719528) (ap day_count s.is) ∙ sym (sub_back (day_count x) 719528) ∙ e;
+}
 
--- at most is not greater
-le_lt_nat : (a b : ℕ) → leb a b ≡ not (ltb b a)
-le_lt_nat a b =
-    by_test (leb a b) (λ t. t ∙ rw (le-ltb b a (leb-true a b t))) (λ f. f ∙ rw (lt-ltb b a (leb-false a b f)))
-
-le_lt : (a b : ℤ) → le_z a b ≡ not (lt_z b a)
-le_lt (pos a) (pos b) = le_lt_nat a b
-le_lt (pos a) (negsuc b) = refl
-le_lt (negsuc a) (pos b) = refl
-le_lt (negsuc a) (negsuc b) = le_lt_nat b a
-
--- the number of a day, by its count
-record Counted (z : ℤ) : Type 0 where
-  count : ℕ
-  few : count ≤ 3652424
-  is : z -ℤ negsuc 719527 ≡ pos count
-
-count_of : (z : ℤ) → lt_z z (negsuc 719527) ≡ false → lt_z (pos 2932896) z ≡ false → Counted z
-count_of (pos a) p q = record { count = a + 719528; few = omega (arith, ltb-false 2932896 a q); is = refl }
-count_of (negsuc a) p q =
-    let h = ltb-false 719527 a p in
-    record { count = 719528 - suc a; few = omega arith; is = rw (le-ltb 719528 (suc a) (omega arith)) }
-
-module _ (z : ℤ) (f : SFits w32 z) where
-  back : plain z ≡ z
-  back = to_z-of_z w32 z f
-
-  judged : is_day_number z ≡ (not (lt_z z (negsuc 719527)) && not (lt_z (pos 2932896) z))
-  judged = ap₂ ◌&&◌ (ap (λ (k : ℤ). le_z k z) least_number ∙ le_lt (negsuc 719527) z) (ap (le_z z) greatest_number ∙ le_lt z (pos 2932896))
-
-  no_text : is_day_number z ≡ false → DayText z (replicate 10 0)
-  no_text h = record { written = λ t. clash (is_day_number z) t h; none = λ _. refl }
-
-  pub before_first : lt_z (plain z) (negsuc 719527) ≡ true → DayText z (replicate 10 0)
-  before_first h = no_text (judged ∙ rw (rw back at h))
-
-  module _ (p : lt_z (plain z) (negsuc 719527) ≡ false) where
-    pub behind_last : lt_z (pos 2932896) (plain z) ≡ true → DayText z (replicate 10 0)
-    behind_last h = no_text (judged ∙ rw (rw back at p, rw back at h))
-
-    module _ (q : lt_z (pos 2932896) (plain z) ≡ false) where
-      c : Counted z
-      c = count_of z (rw back at p) (rw back at q)
-
-      is_number : is_day_number z ≡ true
-      is_number = judged ∙ rw (rw back at p, rw back at q)
-
-      abbrev moved : ℤ
-      moved = plain z -ℤ negsuc 719527
-
-      moved_is : moved ≡ pos c.count
-      moved_is = ap (λ (k : ℤ). k -ℤ negsuc 719527) back ∙ c.is
-
-      pub moved_fits : SFits w32 moved
-      moved_fits = rw moved_is (record { sfits = omega (arith, c.few) })
-
-      moved_back : plain moved ≡ pos c.count
-      moved_back = to_z-of_z w32 moved moved_fits ∙ moved_is
-
-      pub moved_casts : T (non_neg (plain moved)) × Fits w32 (nat_abs (plain moved))
-      moved_casts = rw moved_back (tt, record { fits = omega (arith, c.few) })
-
-      pub moved_few : nat_abs (plain moved) ≤ 3652424
-      moved_few = rw moved_back c.few
-
-      number_is : sub_ℕ (nat_abs (plain moved)) 719528 ≡ z
-      number_is =
-          ap (λ (k : ℤ). sub_ℕ (nat_abs k) 719528) moved_back
-          ∙ sym (sub_back c.count 719528)
-          ∙ ap (λ (k : ℤ). k -ℤ pos 719528) (sym c.is)
-          ∙ +ℤ-neg_ℤ_cancel z (pos 719528)
-
-      pub text_is : (l : List ℕ) → WritesDay (sub_ℕ (nat_abs (plain moved)) 719528) l → DayText z l
-      text_is l t = record { written = λ _. subst (λ (k : ℤ). WritesDay k l) number_is t; none = λ h. clash (is_day_number z) is_number h }
+-- of a day of the years 0000 to 9999
+pub is_number : (z : ℤ) → negsuc 719527 ≤ℤ z → z ≤ℤ pos 2932896 → is_day_number z ≡ true
+is_number z least greatest = rw (least_number, greatest_number) (grind (arith, ints))

@@ -9,7 +9,8 @@ use Rattle.model.specs.Text.{text, same}
 use Rattle.model.specs.Definition.{Named, named_by}
 use Rattle.model.proofs.Basics.{both}
 use Rattle.tokens.specs.Spelling.{IsQuoted}
-use Rattle.tokens.specs.Tokens.{Kind, Null, False, True, Whole, Fractional, Quoted}
+use Rattle.tokens.specs.declared.tokens.Kind.{Kind}
+use Rattle.tokens.specs.declared.tokens.Kind.TheVariants.{Null, False, True, Whole, Fractional, Quoted}
 use Rattle.chars.proofs.Facts.{in_text}
 use Rattle.syntax.specs.Tree.{Node, scalar, array, object, Members, no_member, member, place_of}
 use Rattle.syntax.specs.Grammar.{name_of}

@@ -9,7 +9,8 @@ use Rattle.model.specs.Definition.{Named, named_by, Def, named, array_of, map_of
 use Rattle.model.specs.Definition.{object_of, fields_of, fields_in, mapped as map-option, added as added-option, joined as joined-option}
 use Rattle.model.specs.Definition.{constructed as constructed-option, fields_under as part-option}
 use Rattle.model.proofs.Basics.{never, both}
-use Rattle.tokens.specs.Tokens.{Kind, Null, False, True, Whole, Fractional, Quoted}
+use Rattle.tokens.specs.declared.tokens.Kind.{Kind}
+use Rattle.tokens.specs.declared.tokens.Kind.TheVariants.{Null, False, True, Whole, Fractional, Quoted}
 use Rattle.syntax.specs.Tree.{Node, scalar, array, object, Members, no_member, member}
 use Rattle.syntax.specs.Grammar.{name_of}
 use Rattle.syntax.specs.Spelling.{scalar_of, value_of, members_of}

@@ -2,7 +2,7 @@
 use Prim.Native.Nat.{ℕ}
 use mathlib.Core.Path.{◌≡◌, refl}
 use mathlib.Core.List.{List}
-use Rattle.tokens.specs.Tokens.{Null, False, True, Whole, Fractional, Quoted}
+use Rattle.tokens.specs.declared.tokens.Kind.TheVariants.{Null, False, True, Whole, Fractional, Quoted}
 use Rattle.syntax.specs.Tree.{Node, scalar, array, object, place_of}
 use Rattle.definitions.specs.Definitions.{faulty, wrong, definition_at, body_at, part_of}
 use Rattle.rows.proofs.Facts.{kind_of}

@@ -39,8 +39,8 @@ chars_short (c ∷ cs) = omega (arith, char_short c, chars_short cs, length-appe
 
 -- a name has no more characters than bytes
 values_few : (k : ℕ) (more : ℕ → List ℕ) → ((j : ℕ) → length (more j) ≤ k) → (st : Step) → length (values_on more st) ≤ suc k
-values_few k more h (Char v j) = omega (arith, h j)
-values_few k more h Quote = omega arith
+values_few k more h (Ok (Char v j)) = omega (arith, h j)
+values_few k more h (Ok Quote) = omega arith
 values_few k more h (Refused c p) = omega arith
 
 from_few : (k : ℕ) (s : List ℕ) (i : ℕ) → length (chars_from k s i) ≤ k
@@ -65,7 +65,7 @@ pub naming_start : (name : List ℕ) (at : ℕ) (out : List ℕ) → Naming name
 naming_start name at out = record { done = []; puts = puts_none at out; few = omega arith; inside = omega arith; rest = refl }
 
 module _ {name : List ℕ} {at : ℕ} {before : List ℕ} {next i : ℕ} {out : List ℕ} (g : Naming name at before next i out) {x : Step} (e : x ≡ char_at name i) where
-  pub naming_next : {v j : ℕ} → x ≡ Char v j → {k : ℕ} {out₂ : List ℕ} → Puts (token_char v) next k out out₂ → Naming name at before k j out₂
+  pub naming_next : {v j : ℕ} → x ≡ Ok (Char v j) → {k : ℕ} {out₂ : List ℕ} → Puts (token_char v) next k out out₂ → Naming name at before k j out₂
   naming_next {v} {j} q p =
       let b = char_next name i v j (sym e ∙ q) in
       record {

@@ -1,8 +1,7 @@
 -- A whole text on plain values: what both passes are given and what they tell of it, and how the answer follows.
 use mathlib.Core.Path.{◌≡◌, refl, sym, ap, ◌∙◌}
 use mathlib.Core.List.{List}
-use Prim.Native.Nat.{ℕ, zero, suc, min, ◌+◌, ◌*◌, ◌≤◌, ◌<◌}
-use native.Mathlib.Nat.{le_of_lt, min-eq_left, min-eq_right}
+use Prim.Native.Nat.{ℕ, zero, suc, min, ◌+◌, ◌≤◌, ◌<◌}
 use native.Mathlib.Omega.{arith}
 use lib.ListN.{length, get_or, take, replicate, length-replicate}
 use lib.Seq.{sets}
@@ -13,17 +12,24 @@ use Rattle.chars.proofs.Facts.{run_within}
 use Rattle.syntax.specs.Tree.{Node}
 use Rattle.syntax.specs.Rows.{size, entries, words}
 use Rattle.syntax.specs.Grammar.{value_at, alone, whole_at, read_text}
-use Rattle.syntax.specs.Answer.{rows_in as roomIn, answer, answer_of, table_of}
+use Rattle.syntax.specs.Answer.{rows_in as roomIn, answer, answer_of, table_of, read_within}
 use Rattle.marks.specs.Marks.{mark_entries}
 use Rattle.marks.specs.Filling.{mark_words, FillReady}
-use Rattle.reader.specs.Scanning.{scan_of, Ready, Marked, Told}
+use Rattle.reader.specs.Scanning.{scan_of, CanHold, Ready, Marked, Told}
 use Rattle.syntax.specs.declared.answers.Answer.{Answer}
+use Rattle.syntax.specs.declared.limits.Limits.{Limits}
 use Rattle.reader.specs.declared.scanning.Scanned.{Scanned}
-use Rattle.reader.specs.declared.scanning.Scanned.TheVariants.{Refused, Value}
 use Rattle.syntax.proofs.Facts.{value_takes}
 use Rattle.reader.proofs.scanning.Outcomes.{scan_refused, scan_value, answer_refused, answer_full, answer_read}
 use Rattle.marks.proofs.Facts.{nothing_unnamed, index_fresh, tree_words, tree_fills}
 use Rattle.syntax.proofs.Theorems.{read_code, read_rows}
+use Rattle.std.specs.Prelude.{Ok, Err}
+use Rattle.chars.specs.Refusals.{number, refusal, Reading}
+use Rattle.chars.specs.declared.refusals.Refusal.{Refusal}
+use Rattle.reader.specs.Scanning.{scanned}
+use Rattle.chars.specs.declared.refusals.Code.TheVariants.{TooLong, NotAllowed}
+use Rattle.chars.specs.Characters.{refusal_at}
+use Rattle.tokens.proofs.Facts.{unexpected_in}
 
 -- ---- both passes
 
@@ -32,33 +38,24 @@ cleared zero j = refl
 cleared (suc m) zero = refl
 cleared (suc m) (suc j) = cleared m j
 
--- cleared room for a text of at most 4k bytes
-pub fresh : (s : List ℕ) (k m d : ℕ) → length s ≤ 4 * k → (0 < k) × (4 * k ≤ 65536) × (4 * k + 33 ≤ 2 * m) × (m ≤ 65536) → d ≤ 32
-    → Ready s (replicate k 0) (replicate m 0) d 0 0
-fresh s k m d h g l =
+-- cleared room that can hold a text
+pub fresh : (s : List ℕ) (h m d : ℕ) → CanHold h m s → d ≤ 32 → Ready s (replicate h 0) (replicate m 0) d 0 0
+fresh s h m d c l =
     let n = length-replicate {A = ℕ} m 0 in
     record {
-      room = record { short = omega arith; rows = omega arith };
-      index = index_fresh k m g.0 (omega arith) g.3;
+      room = record { short = c.short; rows = omega (arith, c.rows) };
+      index = index_fresh h m c.some c.few c.marked;
       fresh = record { none = λ j _. rw (cleared m j) nothing_unnamed };
       rowed = omega arith;
       inside = omega arith;
     }
 
 -- what is promised of both passes with the outcome o, and a table t that is t₂ afterwards
-abbrev pub Passed : Parse Node → Scanned → List ℕ → List ℕ → Type 0
+abbrev pub Passed : Parse Node → Reading Scanned → List ℕ → List ℕ → Type 0
 Passed o r t t₂ = (r ≡ scan_of o) × (t₂ ≡ table_of t o)
 
-refused_passed : {o : Parse Node} {c p : ℕ} (t : List ℕ) → o ≡ refused c p → Passed o (Refused c p) t t
-refused_passed {o} {c} {p} t q = rw q (refl, sym (answer_refused 0 c p t).1)
-
--- more brackets than a document's count as a document's
-module _ {r : Scanned} (d : ℕ) (s t t₂ : List ℕ) where
-  pub within_document : Passed (whole_at d s) r t t₂ → d ≤ 32 → Passed (whole_at (min d 32) s) r t t₂
-  within_document p h = rw (min-eq_left h) p
-
-  pub above_document : Passed (whole_at 32 s) r t t₂ → 32 < d → Passed (whole_at (min d 32) s) r t t₂
-  above_document p h = rw (min-eq_right (le_of_lt h)) p
+refused_passed : {o : Parse Node} {bad : Refusal} (t : List ℕ) → o ≡ refused bad.code bad.place → Passed o (Err bad) t t
+refused_passed {o} {bad} t q = rw q (refl, sym (answer_refused 0 bad.code bad.place t).1)
 
 -- the first value begins behind the first space
 pub ready : {s hs ms : List ℕ} {d i : ℕ} → i ≡ skip s 0 → Ready s hs ms d 0 0 → Ready s hs ms d 0 i
@@ -71,7 +68,7 @@ ready {s} z h = record {
 }
 
 -- r is what the first pass tells of that value
-pub record Over (d : ℕ) (s hs ms : List ℕ) (r : Scanned) (hs₂ ms₂ : List ℕ) : Type 0 where
+pub record Over (d : ℕ) (s hs ms : List ℕ) (r : Reading Scanned) (hs₂ ms₂ : List ℕ) : Type 0 where
   pub given : Ready s hs ms d 0 0
   pub place : ℕ
   pub begins : place ≡ skip s 0
@@ -89,16 +86,16 @@ pub record ValueRead (d : ℕ) (s ms₂ : List ℕ) (k j : ℕ) : Type 0 where
   pub small : k ≤ 65536
   pub behind : j ≡ skip s end
 
-module _ {d : ℕ} {s hs ms : List ℕ} {r : Scanned} {hs₂ ms₂ : List ℕ} (o : Over d s hs ms r hs₂ ms₂) where
+module _ {d : ℕ} {s hs ms : List ℕ} {r : Reading Scanned} {hs₂ ms₂ : List ℕ} (o : Over d s hs ms r hs₂ ms₂) where
   -- by the place as the definition has it
   here : Told s (value_at d s (skip s 0)) r 0 ms hs₂ ms₂
   here = rw (← o.begins) o.told
 
-  pub passed_refused : (t : List ℕ) {c p : ℕ} → r ≡ Refused c p → Passed (whole_at d s) (Refused c p) t t
+  pub passed_refused : (t : List ℕ) {bad : Refusal} → r ≡ Err bad → Passed (whole_at d s) (Err bad) t t
   passed_refused t e =
       let v = scan_refused (value_at d s (skip s 0)) (sym here.scan ∙ e) in refused_passed {o = whole_at d s} t (rw v)
 
-  pub value-read : {e k j : ℕ} → r ≡ Value e k → j ≡ skip s e → ValueRead d s ms₂ k j
+  pub value-read : {e k j : ℕ} → r ≡ Ok (scanned e k) → j ≡ skip s e → ValueRead d s ms₂ k j
   value-read {e} {k} v y =
       let n = scan_value (value_at d s (skip s 0)) (sym here.scan ∙ v) in
       let m : Marked s n.0 0 ms hs₂ ms₂ = rw n.1 at here.after in
@@ -122,20 +119,22 @@ module _ {d : ℕ} {s ms₂ : List ℕ} {k j : ℕ} (v : ValueRead d s ms₂ k j
       rw (← z) (tree_fills ms₂ v.tree (rw z v.few) (rw z v.rows) (rw z v.small))
 
 module _ {d : ℕ} {s ms₂ : List ℕ} {k j : ℕ} (v : ValueRead d s ms₂ k j) (t : List ℕ) where
-  pub passed_behind : j < length s → Passed (whole_at d s) (Refused 3 j) t t
-  unfolding alone
-  passed_behind l = refused_passed {o = whole_at d s} t (rw (v.reads, ← v.behind, lt-ltb j (length s) l))
+  pub passed_behind : {bad : Refusal} → bad ≡ refusal_at s j NotAllowed → j < length s → Passed (whole_at d s) (Err bad) t t
+  unfolding alone refusal_at
+  passed_behind {bad} e l =
+      let z : bad ≡ refusal NotAllowed j = e ∙ rw (lt-ltb j (length s) l) refl in
+      rw z (refused_passed {o = whole_at d s} t (rw (v.reads, ← v.behind, lt-ltb j (length s) l)))
 
   module _ (l : length s ≤ j) where
     whole : whole_at d s ≡ parsed v.tree j
     unfolding alone
     whole = rw (v.reads, ← v.behind, le-ltb j (length s) l)
 
-    scanned : Value j k ≡ scan_of (whole_at d s)
-    scanned = sym (ap scan_of whole ∙ ap (Value j) v.sized)
+    told_whole : Ok (scanned j k) ≡ scan_of (whole_at d s)
+    told_whole = sym (ap scan_of whole ∙ ap (λ (x : ℕ). Ok (scanned j x)) v.sized)
 
-    pub passed_full : roomIn (length t) < k → Passed (whole_at d s) (Value j k) t t
-    passed_full m = (scanned, sym (ap (table_of t) whole ∙ (answer_full 0 t v.tree j (rw v.sized m)).1))
+    pub passed_full : roomIn (length t) < k → Passed (whole_at d s) (Ok (scanned j k)) t t
+    passed_full m = (told_whole, sym (ap (table_of t) whole ∙ (answer_full 0 t v.tree j (rw v.sized m)).1))
 
     -- its rows are those of its marks
     laid : mark_words ms₂ k ≡ words v.tree
@@ -143,9 +142,9 @@ module _ {d : ℕ} {s ms₂ : List ℕ} {k j : ℕ} (v : ValueRead d s ms₂ k j
         let z = v.sized in
         rw (← z) (tree_words ms₂ v.tree (rw z v.few) (rw z v.rows))
 
-    pub passed_read : k ≤ roomIn (length t) → {t₂ : List ℕ} → t₂ ≡ sets t 0 (mark_words ms₂ k) → Passed (whole_at d s) (Value j k) t t₂
+    pub passed_read : k ≤ roomIn (length t) → {t₂ : List ℕ} → t₂ ≡ sets t 0 (mark_words ms₂ k) → Passed (whole_at d s) (Ok (scanned j k)) t t₂
     passed_read m w =
-        (scanned, w ∙ ap (sets t 0) laid ∙ sym (ap (table_of t) whole ∙ (answer_read 0 t v.tree j (rw v.sized m)).1))
+        (told_whole, w ∙ ap (sets t 0) laid ∙ sym (ap (table_of t) whole ∙ (answer_read 0 t v.tree j (rw v.sized m)).1))
 
 -- ---- the answer and the table, within limits
 
@@ -153,61 +152,56 @@ module _ {d : ℕ} {s ms₂ : List ℕ} {k j : ℕ} (v : ValueRead d s ms₂ k j
 abbrev pub Done : ℕ → Parse Node → Answer → List ℕ → List ℕ → Type 0
 Done which o a t t₂ = (a ≡ answer_of which (length t) o) × (t₂ ≡ table_of t o)
 
--- more bytes than a document's count as a document's
-pub done_above : (which bytes d : ℕ) (s t t₂ : List ℕ) {a : Answer} → Done which (read_text 65536 d s) a t t₂ → 65536 < bytes
-    → Done which (read_text (min bytes 65536) d s) a t t₂
-done_above which bytes d s t t₂ p h = rw (min-eq_right (le_of_lt h)) p
+module _ (which : ℕ) (l : Limits) (s t : List ℕ) where
+  pub done_over : {b : ℕ} {a : Answer} → b ≡ min l.bytes 65536 → b < length s → a ≡ answer 1 which b 0 → Done which (read_within l s) a t t
+  unfolding read_text
+  done_over {b} e h x =
+      let n = answer_refused which TooLong b t in rw (← e, lt-ltb b (length s) h) (x ∙ sym n.0, sym n.1)
 
-pub done_over : (which bytes d : ℕ) (s t : List ℕ) {a : Answer} → bytes ≤ 65536 → bytes < length s → a ≡ answer 1 which bytes 0
-    → Done which (read_text (min bytes 65536) d s) a t t
-unfolding read_text
-done_over which bytes d s t b h e =
-    let x = answer_refused which 1 bytes t in rw (min-eq_left b, lt-ltb bytes (length s) h) (e ∙ sym x.0, sym x.1)
-
--- both passes are over a text within limits
-pub record TextRead (bytes d : ℕ) (s t : List ℕ) (r : Scanned) (t₂ : List ℕ) : Type 0 where
-  pub limit : bytes ≤ 65536
-  pub short : length s ≤ bytes
-  pub passed : Passed (whole_at d s) r t t₂
+-- both passes are over a text of b bytes at most, as the limits l say
+pub record TextRead (l : Limits) (b : ℕ) (s t : List ℕ) (r : Reading Scanned) (t₂ : List ℕ) : Type 0 where
+  pub limit : b ≡ min l.bytes 65536
+  pub short : length s ≤ b
+  pub passed : Passed (whole_at (min l.depth 32) s) r t t₂
   pub same : length t₂ ≡ length t
 
-module _ {bytes d : ℕ} {s t : List ℕ} {r : Scanned} {t₂ : List ℕ} (h : TextRead bytes d s t r t₂) where
-  within : read_text (min bytes 65536) d s ≡ whole_at d s
+module _ {l : Limits} {b : ℕ} {s t : List ℕ} {r : Reading Scanned} {t₂ : List ℕ} (h : TextRead l b s t r t₂) where
+  within : read_within l s ≡ whole_at (min l.depth 32) s
   unfolding read_text
-  within = rw (min-eq_left h.limit, le-ltb bytes (length s) h.short)
+  within = rw (← h.limit, le-ltb b (length s) h.short)
 
-  done : (which : ℕ) {a : Answer} (o : Parse Node) → read_text (min bytes 65536) d s ≡ o → a ≡ answer_of which (length t) o
-      → Done which (read_text (min bytes 65536) d s) a t t₂
+  done : (which : ℕ) {a : Answer} (o : Parse Node) → read_within l s ≡ o → a ≡ answer_of which (length t) o
+      → Done which (read_within l s) a t t₂
   done which o q x = (x ∙ ap (answer_of which (length t)) (sym q), h.passed.1 ∙ ap (table_of t) (sym within))
 
-  module _ {c p : ℕ} (e : r ≡ Refused c p) where
-    outcome : read_text (min bytes 65536) d s ≡ refused c p
-    outcome = within ∙ scan_refused (whole_at d s) (sym h.passed.0 ∙ e)
+  module _ {bad : Refusal} (e : r ≡ Err bad) where
+    outcome : read_within l s ≡ refused bad.code bad.place
+    outcome = within ∙ scan_refused (whole_at (min l.depth 32) s) (sym h.passed.0 ∙ e)
 
-    pub refused_place : p ≤ 65536
-    refused_place = omega (arith, (read_code _ d s c p outcome).2, h.short, h.limit)
+    pub refused_place : bad.place ≤ 65536
+    refused_place = omega (arith, (read_code _ (min l.depth 32) s bad.code bad.place outcome).2, h.short, h.limit)
 
-    pub done_refused : (which : ℕ) {a : Answer} → a ≡ answer c which p 0 → Done which (read_text (min bytes 65536) d s) a t t₂
-    done_refused which x = done which (refused c p) outcome (x ∙ sym (answer_refused which c p t).0)
+    pub done_refused : (which : ℕ) {a : Answer} → a ≡ answer (number bad.code) which bad.place 0 → Done which (read_within l s) a t t₂
+    done_refused which x = done which (refused bad.code bad.place) outcome (x ∙ sym (answer_refused which bad.code bad.place t).0)
 
-  module _ {e k : ℕ} (v : r ≡ Value e k) where
-    abbrev tree : (n : Node) × (whole_at d s ≡ parsed n e) × (size n ≡ k)
-    tree = scan_value (whole_at d s) (sym h.passed.0 ∙ v)
+  module _ {e k : ℕ} (v : r ≡ Ok (scanned e k)) where
+    abbrev tree : (n : Node) × (whole_at (min l.depth 32) s ≡ parsed n e) × (size n ≡ k)
+    tree = scan_value (whole_at (min l.depth 32) s) (sym h.passed.0 ∙ v)
 
-    outcome₂ : read_text (min bytes 65536) d s ≡ parsed tree.0 e
+    outcome₂ : read_within l s ≡ parsed tree.0 e
     outcome₂ = within ∙ tree.1
 
     pub rows_few : k ≤ 65536
-    rows_few = omega (arith, read_rows _ d s tree.0 e outcome₂, tree.2, h.short, h.limit)
+    rows_few = omega (arith, read_rows _ (min l.depth 32) s tree.0 e outcome₂, tree.2, h.short, h.limit)
 
     -- the room is that of the table afterwards, which is as long as before
     module _ (which : ℕ) {a : Answer} where
-      pub done_full : roomIn (length t₂) < k → a ≡ answer 8 which 0 k → Done which (read_text (min bytes 65536) d s) a t t₂
-      done_full l x =
+      pub done_full : roomIn (length t₂) < k → a ≡ answer 8 which 0 k → Done which (read_within l s) a t t₂
+      done_full f x =
           done which (parsed tree.0 e) outcome₂
-          (x ∙ ap (answer 8 which 0) (sym tree.2) ∙ sym (answer_full which t tree.0 e (rw (← h.same, tree.2) l)).0)
+          (x ∙ ap (answer 8 which 0) (sym tree.2) ∙ sym (answer_full which t tree.0 e (rw (← h.same, tree.2) f)).0)
 
-      pub done_read : k ≤ roomIn (length t₂) → a ≡ answer 0 0 0 k → Done which (read_text (min bytes 65536) d s) a t t₂
-      done_read l x =
+      pub done_read : k ≤ roomIn (length t₂) → a ≡ answer 0 0 0 k → Done which (read_within l s) a t t₂
+      done_read f x =
           done which (parsed tree.0 e) outcome₂
-          (x ∙ ap (answer 0 0 0) (sym tree.2) ∙ sym (answer_read which t tree.0 e (rw (← h.same, tree.2) l)).0)
+          (x ∙ ap (answer 0 0 0) (sym tree.2) ∙ sym (answer_read which t tree.0 e (rw (← h.same, tree.2) f)).0)

@@ -13,12 +13,15 @@ use Rattle.marks.specs.Marks.{list_mark, mark_entries}
 use Rattle.reader.specs.Scanning.{ListFits, Told}
 use Rattle.reader.specs.declared.scanning.Following.{Following}
 use Rattle.reader.specs.declared.scanning.Scanned.{Scanned}
-use Rattle.reader.specs.declared.scanning.Scanned.TheVariants.{Refused, Value}
 use Rattle.syntax.proofs.Facts.{sizes_add, count_add, count_few, entries_all_add, element_reads}
 use Rattle.reader.proofs.scanning.Outcomes.{scan_refused}
 use Rattle.marks.proofs.Facts.{within_join, within_wider, within_kept}
 use Rattle.reader.proofs.scanning.Told.{told_parsed}
 use Rattle.reader.proofs.scanning.Lists.{Bracket, Opened, Filled, Turn, Inside, Followed, first_fits, first_close, first_inside, stays, inside_refused}
+use Rattle.std.specs.Prelude.{Ok, Err}
+use Rattle.chars.specs.Refusals.{number, refusal, Reading}
+use Rattle.chars.specs.declared.refusals.Refusal.{Refusal}
+use Rattle.reader.specs.Scanning.{scanned}
 
 abbrev pub array_of : (s : List ℕ) → ℕ → ℕ → Bracket s Nodes
 array_of s d at = record {
@@ -45,7 +48,7 @@ abbrev pub InArray : (s : List ℕ) (d at row : ℕ) (hs₀ ms₀ hs ms : List �
 InArray s d at row = Inside (array_of s d at) (array_at (value_at d s) s at) d row
 
 -- r is told of the element at i
-pub record ElementSaid (s : List ℕ) (d at row : ℕ) (hs₀ ms₀ hs ms : List ℕ) (rows children i : ℕ) (r : Scanned) : Type 0 where
+pub record ElementSaid (s : List ℕ) (d at row : ℕ) (hs₀ ms₀ hs ms : List ℕ) (rows children i : ℕ) (r : Reading Scanned) : Type 0 where
   pub heads : List ℕ
   pub marks : List ℕ
   pub inside : InArray s d at row hs₀ ms₀ heads marks rows children i
@@ -65,19 +68,19 @@ module _ {s hs ms : List ℕ} {d row at i x : ℕ} (h : Opened s hs ms d row at 
   pub array_empty_fits : x ≡ 0x5D → ListFits 0 at (i + 1) 0 1 row (length ms)
   array_empty_fits = first_fits h (array_of s d at) refl none refl refl refl
 
-  pub array_empty : x ≡ 0x5D → {r : Scanned} {ms₂ : List ℕ} → (r ≡ Value (i + 1) 1) × (ms₂ ≡ set ms row (list_mark 0 at (i + 1) 0 1))
+  pub array_empty : x ≡ 0x5D → {r : Reading Scanned} {ms₂ : List ℕ} → (r ≡ Ok (scanned (i + 1) 1)) × (ms₂ ≡ set ms row (list_mark 0 at (i + 1) 0 1))
       → Told s (array_at (value_at d s) s at) r row ms hs ms₂
   array_empty = first_close h (array_of s d at) refl none refl refl refl
 
   pub array_first : (x ≡ 0x5D → ⊥) → InArray s d at row hs ms hs ms 1 0 i
   array_first = first_inside h (array_of s d at) refl none refl refl refl tt
 
-module _ {s : List ℕ} {d at row : ℕ} {hs₀ ms₀ hs ms : List ℕ} {rows children i : ℕ} {r : Scanned}
+module _ {s : List ℕ} {d at row : ℕ} {hs₀ ms₀ hs ms : List ℕ} {rows children i : ℕ} {r : Reading Scanned}
     (a : ElementSaid s d at row hs₀ ms₀ hs ms rows children i r) where
-  pub array_refused : {c p : ℕ} → r ≡ Refused c p → Told s (array_at (value_at d s) s at) (Refused c p) row ms₀ hs ms
+  pub array_refused : {bad : Refusal} → r ≡ Err bad → Told s (array_at (value_at d s) s at) (Err bad) row ms₀ hs ms
   array_refused q = inside_refused a.inside (rw (scan_refused (value_at d s i) (sym a.told.scan ∙ q)))
 
-  pub array_turn : {e more : ℕ} → r ≡ Value e more → ElementTurn s d at row hs₀ ms₀ hs ms rows children i e more
+  pub array_turn : {e more : ℕ} → r ≡ Ok (scanned e more) → ElementTurn s d at row hs₀ ms₀ hs ms rows children i e more
   array_turn {e} {more} q =
       let h = a.inside in
       let v = told_parsed a.told q in

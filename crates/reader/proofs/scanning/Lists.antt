@@ -19,12 +19,17 @@ use Rattle.reader.specs.Scanning.{scan_of, Room, Ready, ListFits, Follows, Told}
 use Rattle.reader.specs.declared.scanning.Following.{Following}
 use Rattle.reader.specs.declared.scanning.Following.TheVariants.{Closing, Item, Other}
 use Rattle.reader.specs.declared.scanning.Scanned.{Scanned}
-use Rattle.reader.specs.declared.scanning.Scanned.TheVariants.{Refused, Value}
 use Rattle.syntax.proofs.Facts.{Reads, item_takes, items_refused, items_next, items_close, items_bad, list_empty, list_items, byte_in}
 use Rattle.marks.proofs.Facts.{list_entry, list_unnamed, entries_append, entries_cons, entries_none, same_below, fresh_later, fresh_set, within_empty}
 use Rattle.marks.proofs.Facts.{within_none, within_join, within_set, index_plain}
 use Rattle.reader.proofs.scanning.Slices.{slice_kept, slice_meet, slice_header, kept_below}
 use Rattle.reader.proofs.scanning.Told.{told_refused, told_value, told_bad, unexpected_then}
+use Rattle.std.specs.Prelude.{Ok, Err}
+use Rattle.chars.specs.Refusals.{number, refusal, Reading}
+use Rattle.chars.specs.declared.refusals.Refusal.{Refusal}
+use Rattle.reader.specs.Scanning.{scanned}
+use Rattle.chars.specs.Characters.{refusal_at}
+use Rattle.chars.specs.declared.refusals.Code.TheVariants.{NotAllowed}
 
 -- where the opening byte stands, how one more item is read, and what is made of all of them: an array (object is 0) or an object (1);
 -- `keeps` is what is known, besides, of the marks behind its row: in an object, that they keep the members
@@ -129,7 +134,7 @@ module _ {s hs ms : List ℕ} {d row at i x : ℕ} (h : Opened s hs ms d row at 
         let k = run-from is_space s (at + 1) in
         omega (arith, r.room.short, r.room.rows, r.rowed, h.place, b.kind)
 
-    empty_told : x ≡ b.closing → Told s enclosed (Value (i + 1) 1) row ms hs (set ms row (list_mark b.object at (i + 1) 0 1))
+    empty_told : x ≡ b.closing → Told s enclosed (Ok (scanned (i + 1) 1)) row ms hs (set ms row (list_mark b.object at (i + 1) 0 1))
     empty_told c =
         let f = first_fits c in
         let z : 1 ≡ suc (b.rows empty) = omega arith in
@@ -152,7 +157,7 @@ module _ {s hs ms : List ℕ} {d row at i x : ℕ} (h : Opened s hs ms d row at 
           owned = rw y (header_owned opened_filled (omega arith) f.4 m v u);
         })
 
-    pub first_close : x ≡ b.closing → {r : Scanned} {ms₂ : List ℕ} → (r ≡ Value (i + 1) 1) × (ms₂ ≡ set ms row (list_mark b.object at (i + 1) 0 1))
+    pub first_close : x ≡ b.closing → {r : Reading Scanned} {ms₂ : List ℕ} → (r ≡ Ok (scanned (i + 1) 1)) × (ms₂ ≡ set ms row (list_mark b.object at (i + 1) 0 1))
         → Told s enclosed r row ms hs ms₂
     first_close c z = rw (z.0, z.1) (empty_told c)
 
@@ -206,7 +211,7 @@ module _ {L : Type 0} {s : List ℕ} {b : Bracket s L} {o : Parse Node} {d row :
       let a = h.along in
       record { room = along_room a; index = h.filled.index; fresh = h.filled.fresh; rowed = along_rowed a; inside = a.inside }
 
-  pub inside_refused : {c p : ℕ} {hs₂ ms₂ : List ℕ} → b.item h.before i ≡ refused c p → Told s o (Refused c p) row ms₀ hs₂ ms₂
+  pub inside_refused : {bad : Refusal} {hs₂ ms₂ : List ℕ} → b.item h.before i ≡ refused bad.code bad.place → Told s o (Err bad) row ms₀ hs₂ ms₂
   inside_refused q = told_refused (rw (h.along.whole, items_refused b.reads b.closing q))
 
 module _ {L : Type 0} {s : List ℕ} {b : Bracket s L} {o : Parse Node} {d row : ℕ} {hs₀ ms₀ hs ms : List ℕ} {rows children i e more : ℕ}
@@ -238,7 +243,7 @@ module _ {L : Type 0} {s : List ℕ} {b : Bracket s L} {o : Parse Node} {d row :
       closing_fits : ListFits b.object b.at (j + 1) (children + 1) (rows + more) row (length ms)
       closing_fits = omega (arith, turn_takes, closing_room, t.along.ready.room.short, b.few t.all, b.kind, t.kids)
 
-      closing_told : Told s o (Value (j + 1) (rows + more)) row ms₀ hs (set ms row (list_mark b.object b.at (j + 1) (children + 1) (rows + more)))
+      closing_told : Told s o (Ok (scanned (j + 1) (rows + more))) row ms₀ hs (set ms row (list_mark b.object b.at (j + 1) (children + 1) (rows + more)))
       closing_told =
           let f = closing_fits in
           let a = t.along in
@@ -273,12 +278,12 @@ module _ {L : Type 0} {s : List ℕ} {b : Bracket s L} {o : Parse Node} {d row :
     pub turn_fits : ListFits b.object b.at j (children + 1) (rows + more) row (length ms)
     turn_fits = rw closed.1 (closing_fits f.turn refl closed.0)
 
-    pub turn_close : {w : Scanned} {ms₂ : List ℕ}
-        → (w ≡ Value j (rows + more)) × (ms₂ ≡ set ms row (list_mark b.object b.at j (children + 1) (rows + more))) → Told s o w row ms₀ hs ms₂
+    pub turn_close : {w : Reading Scanned} {ms₂ : List ℕ}
+        → (w ≡ Ok (scanned j (rows + more))) × (ms₂ ≡ set ms row (list_mark b.object b.at j (children + 1) (rows + more))) → Told s o w row ms₀ hs ms₂
     turn_close z = rw (z.0, z.1, closed.1) (closing_told f.turn refl closed.0)
 
   -- neither it nor a comma
-  pub turn_bad : {j : ℕ} {w : Scanned} {hs₂ ms₂ : List ℕ} → r ≡ Other j → w ≡ scan_of (unexpected s j) → Told s o w row ms₀ hs₂ ms₂
+  pub turn_bad : {j : ℕ} {bad : Refusal} {hs₂ ms₂ : List ℕ} → r ≡ Other j → bad ≡ refusal_at s j NotAllowed → Told s o (Err bad) row ms₀ hs₂ ms₂
   turn_bad {j} q u =
       let n : (j ≡ skip s e) × (byte_at s (skip s e) ≡ 0x2C → ⊥) × (byte_at s (skip s e) ≡ b.closing → ⊥) = rw q at f.follows in
       let y = ap (byte_at s) (sym n.0) in

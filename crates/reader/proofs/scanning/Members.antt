@@ -11,10 +11,9 @@ use lib.Seq.{slice, slice-cons}
 use Rattle.chars.specs.Bytes.{byte_at}
 use Rattle.tokens.specs.Parse.{Parse, refused, parsed, then, unexpected}
 use Rattle.tokens.specs.Space.{is_space, skip}
-use Rattle.tokens.specs.Tokens.{Kind}
+use Rattle.tokens.specs.declared.tokens.Kind.{Kind}
 use Rattle.chars.proofs.Facts.{run-from, run_within}
 use Rattle.chars.specs.declared.hashing.Hashed.{Hashed}
-use Rattle.chars.specs.declared.hashing.Hashed.TheVariants.{Name, Broken}
 use Rattle.syntax.specs.Tree.{Node, Members, add_member}
 use Rattle.syntax.specs.Rows.{entry, size, sizes_members, Entry, entries, entries_members}
 use Rattle.syntax.specs.Grammar.{name_of, name_at, member_at, value_at}
@@ -22,7 +21,6 @@ use Rattle.marks.specs.Marks.{name_mark, mark_entry, mark_entries}
 use Rattle.marks.specs.Names.{name_first, name_end, name_in, own_hash, Owned, Fresh, Kept, bucket_of, Index, NameReady, hashed_of, NameTold}
 use Rattle.reader.specs.Scanning.{scan_of, Ready, Marked, Told, MemberReady, MemberScan, MemberTold}
 use Rattle.reader.specs.declared.scanning.Scanned.{Scanned}
-use Rattle.reader.specs.declared.scanning.Scanned.TheVariants.{Refused, Value}
 use Rattle.syntax.proofs.Facts.{byte_in, sizes_members_add, entries_members_add, name_within, name_takes, member_bare, member_value, value_takes}
 use Rattle.reader.proofs.scanning.Outcomes.{scan_refused}
 use Rattle.model.proofs.Basics.{never}
@@ -30,18 +28,25 @@ use Rattle.marks.proofs.Facts.{name_numbers, name_named, name_entry, entries_con
 use Rattle.marks.proofs.Facts.{index_head}
 use Rattle.reader.proofs.scanning.Slices.{kept_write}
 use Rattle.reader.proofs.scanning.Told.{told_parsed}
+use Rattle.chars.specs.declared.refusals.Code.TheVariants.{Ended, NotAllowed}
+use Rattle.std.specs.Prelude.{Ok, Err}
+use Rattle.chars.specs.Refusals.{number, refusal, Reading}
+use Rattle.chars.specs.declared.refusals.Refusal.{Refusal}
+use Rattle.reader.specs.Scanning.{scanned}
+use Rattle.chars.specs.Characters.{refusal_at}
+use Rattle.chars.specs.Hashing.{hashed}
+use Rattle.reader.proofs.scanning.Outcomes.{read_refused}
 
 module _ (s : List ℕ) (o i : ℕ) where
-  hashed_broken : (x : Parse Kind) {c p : ℕ} → hashed_of s o i x ≡ Broken c p → x ≡ refused c p
-  hashed_broken (refused c p) q = cc
-  hashed_broken (parsed k e) q = cc
+  hashed_broken : (x : Parse Kind) {bad : Refusal} → hashed_of s o i x ≡ Err bad → x ≡ refused bad.code bad.place
+  hashed_broken x q = read_refused _ x q
 
-  hashed_name : (x : Parse Kind) {e h : ℕ} → hashed_of s o i x ≡ Name e h → (k : Kind) × (x ≡ parsed k e) × (h ≡ own_hash o (name_of s i e))
+  hashed_name : (x : Parse Kind) {e h : ℕ} → hashed_of s o i x ≡ Ok (hashed e h) → (k : Kind) × (x ≡ parsed k e) × (h ≡ own_hash o (name_of s i e))
   hashed_name (refused c p) q = never (cc)
   hashed_name (parsed k f) {e} {h} q =
-      let z : f ≡ e = cc in
-      let y : own_hash o (name_of s i f) ≡ h = cc in
-      (k, ap (parsed k) z, sym y ∙ ap (λ (x : ℕ). own_hash o (name_of s i x)) z)
+      let w : hashed f (own_hash o (name_of s i f)) ≡ hashed e h = cc in
+      let z : f ≡ e = ap (λ (x : Hashed). x.end) w in
+      (k, ap (parsed k) z, sym (ap (λ (x : Hashed). x.hash) w) ∙ ap (λ (x : ℕ). own_hash o (name_of s i x)) z)
 
 -- a name was read from i up to e, with this hash in the object at row o
 pub record NameRead (s ms : List ℕ) (o i e hash : ℕ) : Type 0 where
@@ -66,7 +71,7 @@ module _ {s hs ms : List ℕ} {d o row i : ℕ} (m : MemberReady s hs ms d o row
         fresh = fresh_behind m.before m.behind;
       }
 
-  pub name_read : {r : Hashed} {e h : ℕ} → NameTold s ms o i r → r ≡ Name e h → NameRead s ms o i e h
+  pub name_read : {r : Reading Hashed} {e h : ℕ} → NameTold s ms o i r → r ≡ Ok (hashed e h) → NameRead s ms o i e h
   name_read {r} {e} {h} t q =
       let n = reads m.before m.kept (fresh_behind m.before m.behind) in
       record {
@@ -129,15 +134,15 @@ named {hs = hs} {e = e} {hash = hash} {j = j} m n p w y c z = record {
 }
 
 -- a refusal is the answer of a member too
-scan_bad : (s : List ℕ) (before : Members) (j : ℕ) (r : Scanned) (o row : ℕ) (ms hs₂ ms₂ : List ℕ) → r ≡ scan_of (unexpected s j)
-    → MemberScan s before (unexpected s j) r o row ms hs₂ ms₂
-unfolding unexpected
-scan_bad s before j r o row ms hs₂ ms₂ = go (ltb j (length s))
+scan_bad : (s : List ℕ) (before : Members) (j : ℕ) (bad : Refusal) (o row : ℕ) (ms hs₂ ms₂ : List ℕ) → bad ≡ refusal_at s j NotAllowed
+    → MemberScan s before (unexpected s j) (Err bad) o row ms hs₂ ms₂
+unfolding unexpected refusal_at
+scan_bad s before j bad o row ms hs₂ ms₂ = go (ltb j (length s))
   where
-    go : (b : Bool) → r ≡ scan_of (cond b (refused 3 j) (refused 2 (length s)))
-        → MemberScan s before (cond b (refused 3 j) (refused 2 (length s))) r o row ms hs₂ ms₂
-    go true q = q
-    go false q = q
+    go : (b : Bool) → bad ≡ cond b (refusal NotAllowed j) (refusal Ended (length s))
+        → MemberScan s before (cond b (refused NotAllowed j) (refused Ended (length s))) (Err bad) o row ms hs₂ ms₂
+    go true q = ap Err q
+    go false q = ap Err q
 
 -- the colon behind the name stands in the text
 pub name_behind : {s ms : List ℕ} {o i e hash j x : ℕ} → NameRead s ms o i e hash → x ≡ byte_at s j → x ≡ 0x3A → j < length s
@@ -164,20 +169,20 @@ module _ {s hs ms hs₁ ms₁ : List ℕ} {d o row i k : ℕ} (m : Named s hs ms
 
 -- what each way through a member leaves: no name, no colon, no value, or all three
 module _ {s hs ms : List ℕ} {d o row i : ℕ} (m : MemberReady s hs ms d o row i) where
-  pub told_unnamed : {r : Hashed} {c p : ℕ} {hs₂ ms₂ : List ℕ} → NameTold s ms o i r → r ≡ Broken c p → MemberTold s d (Refused c p) o row i ms hs₂ ms₂
+  pub told_unnamed : {r : Reading Hashed} {bad : Refusal} {hs₂ ms₂ : List ℕ} → NameTold s ms o i r → r ≡ Err bad → MemberTold s d (Err bad) o row i ms hs₂ ms₂
   told_unnamed t q = record {
     tells = λ before h z. rw (hashed_broken s o i (name_at s before i) (sym (t.tells before h (fresh_behind m before z)) ∙ q));
   }
 
-  pub told_bare : {e hash j x : ℕ} {r : Scanned} {hs₂ ms₂ : List ℕ} → NameRead s ms o i e hash → j ≡ skip s e → x ≡ byte_at s j → (x ≡ 0x3A → ⊥)
-      → r ≡ scan_of (unexpected s j) → MemberTold s d r o row i ms hs₂ ms₂
-  told_bare {j = j} {r = r} n w y b q = record {
+  pub told_bare : {e hash j x : ℕ} {bad : Refusal} {hs₂ ms₂ : List ℕ} → NameRead s ms o i e hash → j ≡ skip s e → x ≡ byte_at s j → (x ≡ 0x3A → ⊥)
+      → bad ≡ refusal_at s j NotAllowed → MemberTold s d (Err bad) o row i ms hs₂ ms₂
+  told_bare {j = j} {bad = bad} n w y b q = record {
     tells = λ before h z.
-        rw (member_bare (value_at d s) s before i (n.tells before h (fresh_behind m before z)).1 w (λ v. b (y ∙ v))) (scan_bad s before j r o row ms _ _ q);
+        rw (member_bare (value_at d s) s before i (n.tells before h (fresh_behind m before z)).1 w (λ v. b (y ∙ v))) (scan_bad s before j bad o row ms _ _ q);
   }
 
 -- and r is told of its value
-pub record Valued (s hs ms hs₂ ms₂ : List ℕ) (d o row i : ℕ) (r : Scanned) : Type 0 where
+pub record Valued (s hs ms hs₂ ms₂ : List ℕ) (d o row i : ℕ) (r : Reading Scanned) : Type 0 where
   pub heads : List ℕ
   pub marks : List ℕ
   pub place : ℕ
@@ -185,7 +190,7 @@ pub record Valued (s hs ms hs₂ ms₂ : List ℕ) (d o row i : ℕ) (r : Scanne
   pub told : Told s (value_at d s place) r (row + 1) marks hs₂ ms₂
   pub same : length ms₂ ≡ length marks
 
-module _ {s hs ms hs₂ ms₂ : List ℕ} {d o row i : ℕ} {r : Scanned} (x : Valued s hs ms hs₂ ms₂ d o row i r) where
+module _ {s hs ms hs₂ ms₂ : List ℕ} {d o row i : ℕ} {r : Reading Scanned} (x : Valued s hs ms hs₂ ms₂ d o row i r) where
   abbrev place : ℕ
   place = x.place
 
@@ -199,17 +204,17 @@ module _ {s hs ms hs₂ ms₂ : List ℕ} {d o row i : ℕ} {r : Scanned} (x : V
       member_value (value_at d s) s before i (member.name.tells before h (fresh_behind member.ready before z)).1 member.place member.sign
       ∙ ap (λ (y : ℕ). then (value_at d s y) (λ n p. parsed (add_member before i member.end n) p)) (sym member.starts)
 
-  pub named_rows : {f rows : ℕ} → r ≡ Value f rows → rows < 65536
+  pub named_rows : {f rows : ℕ} → r ≡ Ok (scanned f rows) → rows < 65536
   named_rows q =
       let v = told_parsed x.told q in
       omega (arith, value_takes s d v.1, v.2, member.ready.ready.room.short)
 
-  pub told_valueless : {c p : ℕ} → r ≡ Refused c p → MemberTold s d (Refused c p) o row i ms hs₂ ms₂
+  pub told_valueless : {bad : Refusal} → r ≡ Err bad → MemberTold s d (Err bad) o row i ms hs₂ ms₂
   told_valueless q = record {
     tells = λ before h z. rw (valued before h z, scan_refused (value_at d s place) (sym x.told.scan ∙ q));
   }
 
-  module _ {f rows : ℕ} (q : r ≡ Value f rows) where
+  module _ {f rows : ℕ} (q : r ≡ Ok (scanned f rows)) where
     abbrev read : (n : Node) × (value_at d s place ≡ parsed n f) × (size n ≡ rows) × Marked s n (row + 1) x.marks hs₂ ms₂
     read = told_parsed x.told q
 
@@ -253,7 +258,7 @@ module _ {s hs ms hs₂ ms₂ : List ℕ} {d o row i : ℕ} {r : Scanned} (x : V
         (name_entry i member.end member.link member.hash member.name.takes room.1 member.small room.2)
         ∙ ap (λ (ys : List Entry). entry 9 i member.end 0 1 ∷ ys) (ap (λ (t : ℕ). mark_entries (slice (suc row) t ms₂)) e ∙ rw (← add-one row) read.3.rows)
 
-    pub told_member : MemberTold s d (Value f (rows + 1)) o row i ms hs₂ ms₂
+    pub told_member : MemberTold s d (Ok (scanned f (rows + 1))) o row i ms hs₂ ms₂
     told_member =
         let e = member.end in
         let n = read.0 in

@@ -14,12 +14,15 @@ use Rattle.marks.specs.Names.{Kept}
 use Rattle.reader.specs.Scanning.{ListFits, Told, MemberReady, MemberMarked, MemberScan, MemberTold}
 use Rattle.reader.specs.declared.scanning.Following.{Following}
 use Rattle.reader.specs.declared.scanning.Scanned.{Scanned}
-use Rattle.reader.specs.declared.scanning.Scanned.TheVariants.{Refused, Value}
 use Rattle.syntax.proofs.Facts.{count_members_add, count_members_few, member_parsed, member_reads}
 use Rattle.marks.proofs.Facts.{kept_within}
 use Rattle.model.proofs.Basics.{never}
 use Rattle.reader.proofs.scanning.Lists.{Bracket, Opened, Turn, Inside, Followed, first_fits, first_close, first_inside, stays, inside_ready}
 use Rattle.reader.proofs.scanning.Lists.{inside_refused}
+use Rattle.std.specs.Prelude.{Ok, Err}
+use Rattle.chars.specs.Refusals.{number, refusal, Reading}
+use Rattle.chars.specs.declared.refusals.Refusal.{Refusal}
+use Rattle.reader.specs.Scanning.{scanned}
 
 abbrev pub object_of : (s : List ℕ) → ℕ → ℕ → Bracket s Members
 object_of s d at = record {
@@ -46,7 +49,7 @@ abbrev pub InObject : (s : List ℕ) (d at row : ℕ) (hs₀ ms₀ hs ms : List 
 InObject s d at row = Inside (object_of s d at) (object_at (value_at d s) s at) d row
 
 -- r is told of the member at i
-pub record MemberSaid (s : List ℕ) (d at row : ℕ) (hs₀ ms₀ hs ms : List ℕ) (rows children i : ℕ) (r : Scanned) : Type 0 where
+pub record MemberSaid (s : List ℕ) (d at row : ℕ) (hs₀ ms₀ hs ms : List ℕ) (rows children i : ℕ) (r : Reading Scanned) : Type 0 where
   pub heads : List ℕ
   pub marks : List ℕ
   pub inside : InObject s d at row hs₀ ms₀ heads marks rows children i
@@ -66,7 +69,7 @@ module _ {s hs ms : List ℕ} {d row at i x : ℕ} (h : Opened s hs ms d row at 
   pub object_empty_fits : x ≡ 0x7D → ListFits 1 at (i + 1) 0 1 row (length ms)
   object_empty_fits = first_fits h (object_of s d at) refl no_member refl refl refl
 
-  pub object_empty : x ≡ 0x7D → {r : Scanned} {ms₂ : List ℕ} → (r ≡ Value (i + 1) 1) × (ms₂ ≡ set ms row (list_mark 1 at (i + 1) 0 1))
+  pub object_empty : x ≡ 0x7D → {r : Reading Scanned} {ms₂ : List ℕ} → (r ≡ Ok (scanned (i + 1) 1)) × (ms₂ ≡ set ms row (list_mark 1 at (i + 1) 0 1))
       → Told s (object_at (value_at d s) s at) r row ms hs ms₂
   object_empty = first_close h (object_of s d at) refl no_member refl refl refl
 
@@ -74,18 +77,22 @@ module _ {s hs ms : List ℕ} {d row at i x : ℕ} (h : Opened s hs ms d row at 
   object_first = first_inside h (object_of s d at) refl no_member refl refl refl tt
 
 -- what the answer of a member tells
-module _ (s : List ℕ) (before : Members) {r : Scanned} (w row : ℕ) (ms hs₂ ms₂ : List ℕ) where
-  member_refused : (o : Parse Members) {c p : ℕ} → MemberScan s before o r w row ms hs₂ ms₂ → r ≡ Refused c p → o ≡ refused c p
-  member_refused (refused c p) h q = cc
-  member_refused (parsed all e) h q = let z = sym h.1 ∙ q in cc
+module _ (s : List ℕ) (before : Members) {r : Reading Scanned} (w row : ℕ) (ms hs₂ ms₂ : List ℕ) where
+  member_refused : (o : Parse Members) {bad : Refusal} → MemberScan s before o r w row ms hs₂ ms₂ → r ≡ Err bad → o ≡ refused bad.code bad.place
+  member_refused (refused c p) {bad} h q =
+      let y = sym h ∙ q in
+      let z : refusal c p ≡ bad = cc in
+      ap (λ (x : Refusal). refused x.code x.place) z
+  member_refused (parsed all e) h q = let z = sym h.1 ∙ q in never (cc)
 
-  member_scanned : (o : Parse Members) {e k : ℕ} → MemberScan s before o r w row ms hs₂ ms₂ → r ≡ Value e k
+  member_scanned : (o : Parse Members) {e k : ℕ} → MemberScan s before o r w row ms hs₂ ms₂ → r ≡ Ok (scanned e k)
       → (all : Members) × (o ≡ parsed all e) × MemberMarked s before all k w row ms hs₂ ms₂
   member_scanned (refused c p) h q = never (cc)
   member_scanned (parsed all f) {e} {k} h q =
-      let z : f ≡ e = cc in
-      let y : h.0 ≡ k = cc in
-      (all, ap (parsed all) z, rw y at h.2)
+      let w = sym h.1 ∙ q in
+      let v : scanned f h.0 ≡ scanned e k = cc in
+      let y : h.0 ≡ k = ap (λ (x : Scanned). x.rows) v in
+      (all, ap (λ (x : Scanned). parsed all x.end) v, rw y at h.2)
 
 module _ {s : List ℕ} {d at row : ℕ} {hs₀ ms₀ hs ms : List ℕ} {rows children i : ℕ} (h : InObject s d at row hs₀ ms₀ hs ms rows children i) where
   behind_members : row + rows ≡ row + 1 + sizes_members h.before
@@ -94,7 +101,7 @@ module _ {s : List ℕ} {d at row : ℕ} {hs₀ ms₀ hs ms : List ℕ} {rows ch
   pub object_ready : MemberReady s hs ms d row (row + rows) i
   object_ready = record { ready = inside_ready h; before = h.before; kept = h.keeps; behind = behind_members }
 
-module _ {s : List ℕ} {d at row : ℕ} {hs₀ ms₀ hs ms : List ℕ} {rows children i : ℕ} {r : Scanned}
+module _ {s : List ℕ} {d at row : ℕ} {hs₀ ms₀ hs ms : List ℕ} {rows children i : ℕ} {r : Reading Scanned}
     (a : MemberSaid s d at row hs₀ ms₀ hs ms rows children i r) where
   abbrev given : Members
   given = a.inside.before
@@ -102,10 +109,10 @@ module _ {s : List ℕ} {d at row : ℕ} {hs₀ ms₀ hs ms : List ℕ} {rows ch
   told : MemberScan s given (member_at (value_at d s) s given i) r row (row + rows) a.marks hs ms
   told = a.told.tells given a.inside.keeps (behind_members a.inside)
 
-  pub object_refused : {c p : ℕ} → r ≡ Refused c p → Told s (object_at (value_at d s) s at) (Refused c p) row ms₀ hs ms
+  pub object_refused : {bad : Refusal} → r ≡ Err bad → Told s (object_at (value_at d s) s at) (Err bad) row ms₀ hs ms
   object_refused q = inside_refused a.inside (member_refused s given row (row + rows) a.marks hs ms _ told q)
 
-  pub object_turn : {e more : ℕ} → r ≡ Value e more → MemberTurn s d at row hs₀ ms₀ hs ms rows children i e more
+  pub object_turn : {e more : ℕ} → r ≡ Ok (scanned e more) → MemberTurn s d at row hs₀ ms₀ hs ms rows children i e more
   object_turn {e} {more} q =
       let h = a.inside in
       let v = member_scanned s given row (row + rows) a.marks hs ms _ told q in

@@ -10,22 +10,28 @@ use Rattle.syntax.specs.Tree.{Node}
 use Rattle.syntax.specs.Rows.{size}
 use Rattle.reader.specs.Scanning.{scan_of, Marked, After, Told}
 use Rattle.reader.specs.declared.scanning.Scanned.{Scanned}
-use Rattle.reader.specs.declared.scanning.Scanned.TheVariants.{Refused, Value}
 use Rattle.syntax.proofs.Facts.{unexpected_both}
 use Rattle.reader.proofs.scanning.Outcomes.{scan_value}
+use Rattle.chars.specs.declared.refusals.Code.TheVariants.{Ended, NotAllowed}
+use Rattle.std.specs.Prelude.{Ok, Err}
+use Rattle.chars.specs.Refusals.{number, refusal, Reading}
+use Rattle.chars.specs.declared.refusals.Refusal.{Refusal}
+use Rattle.reader.specs.Scanning.{scanned}
+use Rattle.chars.specs.Characters.{refusal_at}
+use Rattle.tokens.proofs.Facts.{unexpected_read}
 
 module _ {s : List ℕ} {o : Parse Node} {row : ℕ} {ms hs₂ ms₂ : List ℕ} where
-  pub told_refused : {c p : ℕ} → o ≡ refused c p → Told s o (Refused c p) row ms hs₂ ms₂
+  pub told_refused : {bad : Refusal} → o ≡ refused bad.code bad.place → Told s o (Err bad) row ms hs₂ ms₂
   told_refused q = rw q (record { scan = refl; after = tt })
 
-  pub told_value : (n : Node) {e k : ℕ} → o ≡ parsed n e → k ≡ size n → Marked s n row ms hs₂ ms₂ → Told s o (Value e k) row ms hs₂ ms₂
-  told_value n {e = e} q z h = rw q (record { scan = ap (Value e) z; after = h })
+  pub told_value : (n : Node) {e k : ℕ} → o ≡ parsed n e → k ≡ size n → Marked s n row ms hs₂ ms₂ → Told s o (Ok (scanned e k)) row ms hs₂ ms₂
+  told_value n {e = e} q z h = rw q (record { scan = ap (λ (x : ℕ). Ok (scanned e x)) z; after = h })
 
-  pub told_bad : (j : ℕ) {r : Scanned} → o ≡ unexpected s j → r ≡ scan_of (unexpected s j) → Told s o r row ms hs₂ ms₂
-  told_bad j q z = rw q (record { scan = z; after = unexpected_both s j (λ x. After s x row ms hs₂ ms₂) (λ c p _. tt) })
+  pub told_bad : (j : ℕ) {bad : Refusal} → o ≡ unexpected s j → bad ≡ refusal_at s j NotAllowed → Told s o (Err bad) row ms hs₂ ms₂
+  told_bad j q z = rw q (record { scan = unexpected_read _ s j z; after = unexpected_both s j (λ x. After s x row ms hs₂ ms₂) (λ c p _. tt) })
 
   -- what is told of a value that was read
-  pub told_parsed : {r : Scanned} {e k : ℕ} → Told s o r row ms hs₂ ms₂ → r ≡ Value e k
+  pub told_parsed : {r : Reading Scanned} {e k : ℕ} → Told s o r row ms hs₂ ms₂ → r ≡ Ok (scanned e k)
       → (n : Node) × (o ≡ parsed n e) × (size n ≡ k) × Marked s n row ms hs₂ ms₂
   told_parsed h q = let v = scan_value o (sym h.scan ∙ q) in (v.0, v.1, v.2, rw v.1 at h.after)
 
@@ -34,6 +40,6 @@ pub unexpected_then : {A B : Type 0} (s : List ℕ) (j : ℕ) (k : A → ℕ →
 unfolding unexpected
 unexpected_then {A} {B} s j k = go (ltb j (length s))
   where
-    go : (b : Bool) → then (cond b (refused 3 j) (refused 2 (length s))) k ≡ cond b (refused 3 j) (refused 2 (length s))
+    go : (b : Bool) → then (cond b (refused NotAllowed j) (refused Ended (length s))) k ≡ cond b (refused NotAllowed j) (refused Ended (length s))
     go true = refl
     go false = refl

@@ -10,12 +10,12 @@ use lib.ListN.{length, take, set}
 use lib.Seq.{slice_empty, take-set-le}
 use Rattle.chars.specs.Bytes.{byte_at}
 use Rattle.tokens.specs.Parse.{Parse, refused, parsed}
-use Rattle.tokens.specs.Tokens.{Kind, Whole}
+use Rattle.tokens.specs.declared.tokens.Kind.{Kind}
+use Rattle.tokens.specs.declared.tokens.Kind.TheVariants.{Whole}
 use Rattle.tokens.specs.Scalars.{first_of, scalar_at}
 use Rattle.tokens.specs.declared.scalars.First.{First}
 use Rattle.tokens.specs.declared.scalars.First.TheVariants.{Array, Object, Number}
 use Rattle.tokens.specs.Integers.{integer_end}
-use Rattle.tokens.specs.declared.tokens.Token.TheVariants.{Taken}
 use Rattle.tokens.proofs.Facts.{first_array, first_object, scalar_bounded, integer_read}
 use Rattle.tokens.specs.contracts.scalars.First.{the_type}
 use Rattle.syntax.specs.Tree.{Node}
@@ -24,7 +24,6 @@ use Rattle.syntax.specs.Grammar.{array_at, object_at, leaf_at, value_at}
 use Rattle.marks.specs.Marks.{leaf_mark, mark_entry, mark_entries}
 use Rattle.reader.specs.Scanning.{Begun, LeafReady, Ready, LeafAfter, LeafTold, Marked, After, Told}
 use Rattle.reader.specs.declared.scanning.Scanned.{Scanned}
-use Rattle.reader.specs.declared.scanning.Scanned.TheVariants.{Refused, Value}
 use Rattle.syntax.proofs.Facts.{byte_in, value_deep_array, value_array, value_deep_object, value_object, first_opens, first_leaf, value_leaf}
 use Rattle.syntax.proofs.Facts.{leaf_parsed}
 use Rattle.reader.proofs.scanning.Leaves.{LeafRead, leaf_fits, leaf_noted}
@@ -33,10 +32,16 @@ use Rattle.marks.proofs.Facts.{entries_cons, entries_none, fresh_later, within_e
 use Rattle.reader.proofs.scanning.Slices.{slice_header}
 use Rattle.reader.proofs.scanning.Told.{told_refused}
 use Rattle.reader.proofs.scanning.Lists.{Filled, header_index, header_fresh, header_owned}
+use Rattle.std.specs.Prelude.{Ok, Err}
+use Rattle.chars.specs.Refusals.{number, refusal, Reading}
+use Rattle.chars.specs.declared.refusals.Refusal.{Refusal}
+use Rattle.reader.specs.Scanning.{scanned}
+use Rattle.tokens.specs.Tokens.{kind_number, token}
+use Rattle.chars.specs.declared.refusals.Code.TheVariants.{TooDeep}
 
 -- more brackets are open than may be
 pub told_deep : {s : List ℕ} {i : ℕ} {f : First} {d row : ℕ} {ms hs₂ ms₂ : List ℕ} → Begun s i f → OneOf (0 ∷ 1 ∷ []) (tag_of the_type f) → d ≡ 0
-    → Told s (value_at d s i) (Refused 7 i) row ms hs₂ ms₂
+    → Told s (value_at d s i) (Err (refusal TooDeep i)) row ms hs₂ ms₂
 told_deep {s} {i} {f} {d} b h n =
     told_refused (elim (first_opens f h) [ inl q ↦ value_deep_array d s i (sym b.first ∙ q) n | inr q ↦ value_deep_object d s i (sym b.first ∙ q) n ])
 
@@ -54,14 +59,14 @@ module _ {s hs ms : List ℕ} {d row i : ℕ} {f : First} (b : Opening s hs ms d
     pub array_opens : Ready s hs ms (d - 1 + 1) row i × (i < length s)
     array_opens = (opening_ready, byte_in s i 0x5B (omega arith) (first_array (byte_at s i) (sym b.begun.first ∙ q)))
 
-    pub told_array : {r : Scanned} {hs₂ ms₂ : List ℕ} → Told s (array_at (value_at (d - 1) s) s i) r row ms hs₂ ms₂ → Told s (value_at d s i) r row ms hs₂ ms₂
+    pub told_array : {r : Reading Scanned} {hs₂ ms₂ : List ℕ} → Told s (array_at (value_at (d - 1) s) s i) r row ms hs₂ ms₂ → Told s (value_at d s i) r row ms hs₂ ms₂
     told_array o = rw (value_array d s i (sym b.begun.first ∙ q) b.some) o
 
   module _ (q : f ≡ Object) where
     pub object_opens : Ready s hs ms (d - 1 + 1) row i × (i < length s)
     object_opens = (opening_ready, byte_in s i 0x7B (omega arith) (first_object (byte_at s i) (sym b.begun.first ∙ q)))
 
-    pub told_object : {r : Scanned} {hs₂ ms₂ : List ℕ} → Told s (object_at (value_at (d - 1) s) s i) r row ms hs₂ ms₂ → Told s (value_at d s i) r row ms hs₂ ms₂
+    pub told_object : {r : Reading Scanned} {hs₂ ms₂ : List ℕ} → Told s (object_at (value_at (d - 1) s) s i) r row ms hs₂ ms₂ → Told s (value_at d s i) r row ms hs₂ ms₂
     told_object o = rw (value_object d s i (sym b.begun.first ∙ q) b.some) o
 
 -- there is a place for the row of a value that holds no other
@@ -99,11 +104,11 @@ module _ {s hs ms : List ℕ} {d row i : ℕ} (ms₂ : List ℕ) (p : Ready s hs
   leaf_after (parsed n e) z a = leaf_marked n e z a
 
   -- its first byte opens neither an array nor an object
-  as_leaf : {r : Scanned} → (first_of (byte_at s i) ≡ Array → ⊥) → (first_of (byte_at s i) ≡ Object → ⊥) → LeafTold (leaf_at s i) r row ms ms₂
+  as_leaf : {r : Reading Scanned} → (first_of (byte_at s i) ≡ Array → ⊥) → (first_of (byte_at s i) ≡ Object → ⊥) → LeafTold (leaf_at s i) r row ms ms₂
       → Told s (value_at d s i) r row ms hs ms₂
   as_leaf m n o = rw (value_leaf d s i m n) (record { scan = o.scan; after = leaf_after (leaf_at s i) refl o.after })
 
-pub told_leaf : {s hs ms ms₂ : List ℕ} {d row i : ℕ} {f : First} {r : Scanned} → Ready s hs ms d row i × Begun s i f
+pub told_leaf : {s hs ms ms₂ : List ℕ} {d row i : ℕ} {f : First} {r : Reading Scanned} → Ready s hs ms d row i × Begun s i f
     → OneOf (2 ∷ 3 ∷ 4 ∷ 5 ∷ 6 ∷ 7 ∷ []) (tag_of the_type f) → LeafTold (leaf_at s i) r row ms ms₂ → Told s (value_at d s i) r row ms hs ms₂
 told_leaf {f = f} p h o = let n = first_leaf f h in as_leaf _ p.0 (λ e. n.0 (p.1.first ∙ e)) (λ e. n.1 (p.1.first ∙ e)) o
 
@@ -123,12 +128,12 @@ module _ {s hs ms : List ℕ} {d row i e : ℕ} (n : IntegerRead s hs ms d row i
   integer_is : (first_of (byte_at s i) ≡ Number) × (scalar_at s i ≡ parsed Whole e)
   integer_is = rw n.ends (integer_read s i (omega (arith, n.ends)))
 
-  integer_leaf : LeafRead s ms row i (Taken 4 e)
+  integer_leaf : LeafRead s ms row i (Ok (token Whole e))
   integer_leaf = record { ready = leaf_ready n.ready; is = rw integer_is.1 }
 
-  pub integer_fits : ((4 < 65536) × (i < e) × (e ≤ 65536)) × (row < length ms)
+  pub integer_fits : ((kind_number Whole < 65536) × (i < e) × (e ≤ 65536)) × (row < length ms)
   integer_fits = leaf_fits integer_leaf refl
 
-  pub told_integer : {m : ℕ} → m ≡ leaf_mark 4 i e → Told s (value_at d s i) (Value e 1) row ms hs (set ms row m)
+  pub told_integer : {m : ℕ} → m ≡ leaf_mark (kind_number Whole) i e → Told s (value_at d s i) (Ok (scanned e 1)) row ms hs (set ms row m)
   told_integer {m} q =
       let f = sym integer_is.0 in as_leaf (set ms row m) n.ready (λ z. not_array (f ∙ z)) (λ z. not_object (f ∙ z)) (leaf_noted integer_leaf refl q)

@@ -11,7 +11,7 @@ use Rattle.model.specs.Definition.{Named, JSON, Schema, Float, Integer, String, 
 use Rattle.model.proofs.Basics.{both, by_test, same_eq, same_refl}
 use Rattle.model.proofs.Formed.{WellFormed, AreFields}
 use Rattle.model.proofs.Samples.{disjoint_at}
-use Rattle.tokens.specs.Tokens.{Null, False, True, Whole, Fractional, Quoted}
+use Rattle.tokens.specs.declared.tokens.Kind.TheVariants.{Null, False, True, Whole, Fractional, Quoted}
 use Rattle.syntax.specs.Tree.{Node, scalar, array, object, Nodes, none as no_Node, more, Members, no_member, member}
 use Rattle.syntax.specs.Rows.{size, sizes, sizes_members}
 use Rattle.syntax.specs.Grammar.{name_of}

@@ -13,7 +13,7 @@ use Rattle.model.specs.Definition.{JSON, Schema, Float, Integer, String, Boolean
 use Rattle.model.specs.Date.{is_date, moment}
 use Rattle.model.proofs.Basics.{both, by_test}
 use Rattle.model.proofs.Moments.{least, greatest}
-use Rattle.tokens.specs.Tokens.{Null, False, True, Whole, Fractional, Quoted}
+use Rattle.tokens.specs.declared.tokens.Kind.TheVariants.{Null, False, True, Whole, Fractional, Quoted}
 use Rattle.tokens.specs.Parse.{Parse, refused, parsed}
 use Rattle.syntax.specs.Tree.{Node, scalar, array, object}
 use Rattle.syntax.specs.Rows.{size}

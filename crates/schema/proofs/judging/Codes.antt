@@ -10,7 +10,8 @@ use Rattle.model.specs.Definition.{Named, JSON, Schema, Float, Integer, String, 
 use Rattle.model.specs.Date.{is_date}
 use Rattle.model.specs.Meeting.{is_some}
 use Rattle.model.proofs.Basics.{both}
-use Rattle.tokens.specs.Tokens.{Kind, Null, False, True, Whole, Fractional, Quoted}
+use Rattle.tokens.specs.declared.tokens.Kind.{Kind}
+use Rattle.tokens.specs.declared.tokens.Kind.TheVariants.{Null, False, True, Whole, Fractional, Quoted}
 use Rattle.syntax.specs.Tree.{Node, scalar, array, object, place_of}
 use Rattle.syntax.specs.Grammar.{name_of}
 use Rattle.syntax.specs.Spelling.{value_of}

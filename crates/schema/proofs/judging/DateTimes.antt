@@ -1,18 +1,17 @@
 -- A value against DateTime, on plain values: one law for each way out of `judge_date` (01, "Definitions": "First misfit"; 02, L3).
 use Prim.Native.Nat.{ℕ}
 use mathlib.Core.Path.{◌≡◌, sym, ap, subst, ◌∙◌}
-use mathlib.Core.Bool.{true, false, false≢true}
+use mathlib.Core.Bool.{true, false}
 use mathlib.Core.List.{List, [], ◌∷◌}
 use native.Mathlib.Omega.{arith}
 use lib.IntN.{ℤ}
 use mir.Syntax.{w64}
 use mir.Val.{SFits, to_z, of_z}
 use mir.ValLaws.{to_z-of_z}
+use Rattle.std.specs.Prelude.{Option, Some, None}
 use Rattle.model.specs.Date.{is_date, moment}
 use Rattle.model.proofs.Basics.{by_test}
 use Rattle.date.specs.Moments.{moment_of}
-use Rattle.date.specs.declared.Moment.{Moment}
-use Rattle.date.specs.declared.Moment.TheVariants.{At, NoDate}
 use Rattle.syntax.specs.Grammar.{name_of}
 use Rattle.rows.specs.Records.{Reads}
 use Rattle.rows.specs.declared.records.Record.{Record}
@@ -24,13 +23,13 @@ use Rattle.schema.proofs.judging.OtherKinds.{no_date}
 use Rattle.schema.proofs.judging.Laws.{failed, walks_fails, walks_date}
 
 -- what is told of a string by its moment
-dated : (c : List ℕ) (z : ℤ) → moment_of c ≡ At z → (is_date c ≡ true) × (moment c ≡ z)
+dated : (c : List ℕ) (z : ℤ) → moment_of c ≡ Some z → (is_date c ≡ true) × (moment c ≡ z)
 dated c z q = by_test (is_date c)
-    (λ t. let e : At (moment c) ≡ At z = rw t at q in (t, cc))
-    (λ t. let e : NoDate ≡ At z = rw t at q in let n : false ≡ true = cc in absurd (false≢true n))
+    (λ t. let e : Some (moment c) ≡ Some z = rw t at q in (t, cc))
+    (λ t. let e : None ≡ Some z = rw t at q in cc)
 
-undated : (c : List ℕ) → moment_of c ≡ NoDate → is_date c ≡ false
-undated c q = by_test (is_date c) (λ t. let e : At (moment c) ≡ NoDate = rw t at q in cc) (λ t. t)
+undated : (c : List ℕ) → moment_of c ≡ None → is_date c ≡ false
+undated c q = by_test (is_date c) (λ t. let e : Some (moment c) ≡ None = rw t at q in cc) (λ t. t)
 
 module _ {s t : List ℕ} {r : ℕ} {x : Record} (p : Reads t r x) {o : ℕ} {m : Mismatch} {ds : List ℤ} where
   pub date_other : (x.kind ≡ 6 → ⊥) → m ≡ mismatch 20 x.first o → JudgedDate s t r o m ds ds
@@ -41,9 +40,9 @@ module _ {s t : List ℕ} {r : ℕ} {x : Record} (p : Reads t r x) {o : ℕ} {m 
   }
 
   -- the string was judged as a date
-  module _ (h : x.kind ≡ 6) {k : Moment} (d : k ≡ moment_of (name_of s x.first x.end)) where
+  module _ (h : x.kind ≡ 6) {k : Option ℤ} (d : k ≡ moment_of (name_of s x.first x.end)) where
     -- its moment is counted as it is read back
-    pub date_is : {z : ℤ} {ds₂ : List ℤ} → k ≡ At z → SFits w64 z → Counted (to_z w64 (of_z w64 z)) ds ds₂ → m ≡ nothing → JudgedDate s t r o m ds ds₂
+    pub date_is : {z : ℤ} {ds₂ : List ℤ} → k ≡ Some z → SFits w64 z → Counted (to_z w64 (of_z w64 z)) ds ds₂ → m ≡ nothing → JudgedDate s t r o m ds ds₂
     date_is {z} {ds₂} q f c e = record {
       tells = λ w.
           (let y = dated (name_of s x.first x.end) z (sym d ∙ q) in
@@ -51,7 +50,7 @@ module _ {s t : List ℕ} {r : ℕ} {x : Record} (p : Reads t r x) {o : ℕ} {m 
           rw (string_read w p h) (walks_date z (rw y.0) (ap (λ (k : ℤ). k ∷ []) y.1) counted e));
     }
 
-    pub date_not : k ≡ NoDate → m ≡ mismatch 22 x.first o → JudgedDate s t r o m ds ds
+    pub date_not : k ≡ None → m ≡ mismatch 22 x.first o → JudgedDate s t r o m ds ds
     date_not q e = record {
       tells = λ w.
           rw (string_read w p h)

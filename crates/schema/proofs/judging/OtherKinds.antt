@@ -2,7 +2,7 @@
 use Prim.Native.Nat.{ℕ}
 use mathlib.Core.Path.{◌≡◌, refl}
 use mathlib.Core.List.{List}
-use Rattle.tokens.specs.Tokens.{Null, False, True, Whole, Fractional, Quoted}
+use Rattle.tokens.specs.declared.tokens.Kind.TheVariants.{Null, False, True, Whole, Fractional, Quoted}
 use mathlib.Core.Bool.{false}
 use Rattle.syntax.specs.Tree.{Node, scalar, array, object, place_of}
 use Rattle.schema.specs.Judging.{mismatch, date_at, is_array, is_object}

@@ -12,7 +12,8 @@ use lib.IntN.{ℤ}
 use borrow.Author.Tests.{eq-eqb, ne_eqb}
 use Rattle.model.specs.Meeting.{is_some}
 use Rattle.model.specs.Definition.{Named, JSON, Schema, Float, Integer, String, Boolean, DateTime, named_by, definition_of}
-use Rattle.tokens.specs.Tokens.{Kind, Null, False, True, Whole, Fractional, Quoted}
+use Rattle.tokens.specs.declared.tokens.Kind.{Kind}
+use Rattle.tokens.specs.declared.tokens.Kind.TheVariants.{Null, False, True, Whole, Fractional, Quoted}
 use Rattle.syntax.specs.Tree.{Node, scalar, array, object, place_of}
 use Rattle.syntax.specs.Grammar.{name_of}
 use Rattle.syntax.specs.Spelling.{value_of}

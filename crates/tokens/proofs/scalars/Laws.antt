@@ -12,14 +12,15 @@ use borrow.Author.Tests.{eq-eqb, eqb-true, leb-true, ltb-true, lt-ltb, lt-leb, l
 use Rattle.model.specs.Text.{text, all, is_scalar, is_text}
 use Rattle.model.specs.Value.{is_digit}
 use Rattle.model.proofs.Basics.{or-false, both, and_ways}
-use Rattle.chars.specs.declared.strings.Scan.{Scan}
-use Rattle.chars.specs.declared.strings.Scan.TheVariants.{Ends, Stopped}
+use Rattle.std.specs.Prelude.{Ok, Err}
+use Rattle.chars.specs.Refusals.{number, Reading}
 use Rattle.tokens.specs.declared.scalars.First.{First}
 use Rattle.tokens.specs.declared.scalars.First.TheVariants.{Array, Object, Quote, Number, LetterN, LetterF, LetterT, Other}
 use Rattle.chars.specs.Bytes.{byte_at}
 use Rattle.tokens.specs.Parse.{Parse, refused, parsed, unexpected}
 use Rattle.chars.specs.Strings.{string_from, string_at, chars_at, characters, part}
-use Rattle.tokens.specs.Tokens.{Kind, Null, False, True, Whole}
+use Rattle.tokens.specs.declared.tokens.Kind.{Kind}
+use Rattle.tokens.specs.declared.tokens.Kind.TheVariants.{Null, False, True, Whole}
 use Rattle.tokens.specs.Numbers.{digits_end, whole_end, exponent_at, fraction_at, unsigned_at, number_at}
 use Rattle.tokens.specs.Scalars.{first_of, word_at, quoted, scalar_by, scalar_at}
 use Rattle.tokens.specs.Spelling.{Spells, IsQuoted}
@@ -29,6 +30,7 @@ use Rattle.chars.proofs.Facts.{scalars}
 use Rattle.tokens.proofs.Bounds.{Bounded, unexpected_ways, unexpected_bounded, unexpected_end}
 use Rattle.tokens.proofs.Pieces.{part_none, part_cons}
 use Rattle.tokens.proofs.numbers.Laws.{Spelled, unexpected_spelled, number_bounded, number_spelled}
+use Rattle.chars.specs.declared.refusals.Code.TheVariants.{Ended}
 
 -- the first byte of each kind of value
 abbrev pub FirstIs : ℕ → First → Type 0
@@ -74,7 +76,7 @@ module _ (b : ℕ) where
 
 -- a word that was read stands there
 abbrev Word : Kind → List ℕ → List ℕ → ℕ → Parse Kind → Type 0
-Word k w s i (refused c p) = (p ≤ length s) × (2 ≤ c) × (c ≤ 7)
+Word k w s i (refused c p) = (p ≤ length s) × (2 ≤ number c) × (number c ≤ 7)
 Word k w s i (parsed j e) = (j ≡ k) × (e ≡ i + length w) × (e ≤ length s) × (part s i e ≡ w)
 
 more : (k : Kind) (c : ℕ) (w s : List ℕ) (i : ℕ) → byte_at s i ≡ c → i < length s → (r : Parse Kind) → Word k w s (i + 1) r → Word k (c ∷ w) s i r
@@ -100,9 +102,9 @@ word_good : (k : Kind) (w s : List ℕ) (i : ℕ) → 0 < length w → ((e : ℕ
 word_good k w s i l f (refused c p) h = (h, tt)
 word_good k w s i l f (parsed j e) h = (omega arith, subst (λ (x : Kind). Spells x s i e) (sym h.0) (f e h.3))
 
-quoted_good : (s : List ℕ) (i : ℕ) → byte_at s i ≡ 0x22 → (r : Scan) → string_at s (i + 1) ≡ r → ScanAhead s (i + 1) r → Good s i (quoted r)
-quoted_good s i o (Ends e) q h = (omega arith, record { opens = o; ends = q })
-quoted_good s i o (Stopped c p) q h = (omega arith, tt)
+quoted_good : (s : List ℕ) (i : ℕ) → byte_at s i ≡ 0x22 → (r : Reading ℕ) → string_at s (i + 1) ≡ r → ScanAhead s (i + 1) r → Good s i (quoted r)
+quoted_good s i o (Ok e) q h = (omega arith, record { opens = o; ends = q })
+quoted_good s i o (Err r) q h = (omega arith, tt)
 
 module _ (s : List ℕ) (i : ℕ) where
   unexpected_good : Good s i (unexpected s i)
@@ -148,7 +150,7 @@ module _ (s : List ℕ) (i : ℕ) where
   by_end Other h = refl
 
   -- behind the text
-  pub scalar_end : length s ≤ i → scalar_at s i ≡ refused 2 (length s)
+  pub scalar_end : length s ≤ i → scalar_at s i ≡ refused Ended (length s)
   unfolding first_of
   scalar_end h = rw (nothing h) (unexpected_end s i h)
 

@@ -11,16 +11,13 @@ use borrow.Rule.Slice.PartMut.{mid_of, put_mid}
 use borrow.Author.Tests.{ne_eqb, eqb-false}
 use Rattle.model.proofs.Basics.{by_test}
 use Rattle.chars.specs.Bytes.{byte_at}
-use mathlib.Core.Logic.{◌⊎◌, inl, inr}
-use denote.Enum.Declared.{tag_of}
-use Rattle.chars.specs.contracts.characters.Step.{the_type}
 use Rattle.chars.specs.declared.characters.Step.{Step}
-use Rattle.chars.specs.declared.characters.Step.TheVariants.{Char, Quote, Refused}
-use Rattle.chars.specs.declared.strings.Scan.TheVariants.{Ends}
-use Rattle.chars.specs.Characters.{char_at}
+use Rattle.chars.specs.declared.characters.Step.TheVariants.{Char, Quote}
+use Rattle.chars.specs.declared.characters.Character.{Character}
+use Rattle.chars.specs.Characters.{char_at, character_in, character_at}
 use Rattle.chars.specs.Strings.{string_at, chars_at, part}
 use Rattle.tokens.specs.Spelling.{IsQuoted}
-use Rattle.chars.proofs.Facts.{run_next, run-from, char_next, string_bounds, string_char, chars_char}
+use Rattle.chars.proofs.Facts.{run_next, run-from, char_next, char_read, string_bounds, string_char, chars_char}
 use Rattle.tokens.proofs.Facts.{part_one}
 use Rattle.grammar.proofs.Facts.{char_quote}
 use Rattle.writer.specs.Spell.{spell_char, spell_chars}
@@ -32,6 +29,8 @@ use Rattle.writer.proofs.runs.Laws.{run_length, run_room}
 use Rattle.writer.proofs.Over.{over_as, over_first, Wrote, wrote_byte, wrote_length, left_length, wrote_more, wrote_last}
 use Rattle.writer.proofs.Copied.{ordinary, value_most}
 use Rattle.writer.proofs.Stretches.{stretch, string_short, not_refused, quote_ends, quote_byte}
+use Rattle.std.specs.Prelude.{Ok, Err, Option, Some, None}
+use Rattle.chars.specs.Refusals.{Reading}
 
 -- a piece by its numbers
 piece_is : (w : List ℕ) {e k n : ℕ} → k ≡ e → n ≡ length w → ◌≡◌ {A = Piece} (record { next = k; len = n }) (piece e w)
@@ -67,7 +66,7 @@ module _ (s : List ℕ) (i : ℕ) where
     ordinary_written out e = (ordinary_piece e.0, rw ordinary_bytes e.1)
 
   -- an escape
-  module _ (b : byte_at s i ≡ 0x5C) {o : Step} (q : o ≡ char_at s i) where
+  module _ (b : byte_at s i ≡ 0x5C) {o : Option Character} (q : o ≡ character_at s i) where
     escape_bytes : stretch_bytes s i ≡ bytes_of o
     unfolding stretch_bytes
     escape_bytes = rw (b, ← q)
@@ -77,26 +76,23 @@ module _ (s : List ℕ) (i : ℕ) where
     of_escape n e = piece_is (stretch_bytes s i) (rw (b, ← q)) (rw escape_bytes e)
 
     -- of a character
-    module _ {v j : ℕ} (c : o ≡ Char v j) where
-      is_char : stretch_bytes s i ≡ spell_char v
+    module _ {x : Character} (c : o ≡ Some x) where
+      is_char : stretch_bytes s i ≡ spell_char x.value
       is_char = escape_bytes ∙ ap bytes_of c
 
-      pub escape_piece : {n : ℕ} → n ≡ length (spell_char v) → IsStretch j n
-      escape_piece {n} e = subst (λ (x : Step). n ≡ length (bytes_of x) → IsStretch (next_of i x) n) c (of_escape n) e
+      pub escape_piece : {n : ℕ} → n ≡ length (spell_char x.value) → IsStretch x.next n
+      escape_piece {n} e = subst (λ (x : Option Character). n ≡ length (bytes_of x) → IsStretch (next_of i x) n) c (of_escape n) e
 
-      pub escape_ready : {m : ℕ} → length (stretch_bytes s i) ≤ m → (v ≤ 0x10FFFF) × (length (spell_char v) ≤ m)
-      escape_ready h = (value_most s i v j (sym q ∙ c), rw is_char at h)
+      pub escape_ready : {m : ℕ} → length (stretch_bytes s i) ≤ m → (x.value ≤ 0x10FFFF) × (length (spell_char x.value) ≤ m)
+      escape_ready h = (value_most s i x.value x.next (char_read s i x.value x.next (sym q ∙ c)), rw is_char at h)
 
-      pub escape_written : (out : List ℕ) {n : ℕ} {u : List ℕ} → (n ≡ length (spell_char v)) × (u ≡ over (spell_char v) out) → WritesStretch j n u out
+      pub escape_written : (out : List ℕ) {n : ℕ} {u : List ℕ} → (n ≡ length (spell_char x.value)) × (u ≡ over (spell_char x.value) out)
+          → WritesStretch x.next n u out
       escape_written out e = (escape_piece e.0, rw is_char e.1)
 
-  -- where no character stands, by the tag that the code looks at
-  pub no_bytes : byte_at s i ≡ 0x5C → (o : Step) → o ≡ char_at s i → (tag_of the_type o ≡ 1) ⊎ (tag_of the_type o ≡ 2)
-      → (out : List ℕ) → WritesStretch i 0 out out
-  no_bytes b (Char v j) q (inl e) out = absurd (omega arith)
-  no_bytes b (Char v j) q (inr e) out = absurd (omega arith)
-  no_bytes b Quote q h out = (of_escape b q 0 refl, rw (escape_bytes b q))
-  no_bytes b (Refused c p) q h out = (of_escape b q 0 refl, rw (escape_bytes b q))
+    -- where no character stands
+    pub no_bytes : o ≡ None → (out : List ℕ) → WritesStretch i 0 out out
+    no_bytes z out = (subst (λ (x : Option Character). 0 ≡ length (bytes_of x) → IsStretch (next_of i x) 0) z (of_escape 0) refl, rw (escape_bytes ∙ ap bytes_of z))
 
 -- ---- a string
 
@@ -105,7 +101,7 @@ pub record InString (s : List ℕ) (at i n : ℕ) : Type 0 where
   pub done : List ℕ
   pub is_quoted : IsQuoted s at (string_end s at)
   pub count : n ≡ length done
-  pub goes-on : string_at s i ≡ Ends (string_end s at)
+  pub goes-on : string_at s i ≡ Ok (string_end s at)
   pub splits : string_bytes s at ≡ done ++ (spell_chars (chars_at s i) ++ (0x22 ∷ []))
   -- the closing quote is still to be written; places and counts lie within the text
   pub room : n + length (spell_chars (chars_at s i)) + 1 ≡ length (string_bytes s at)
@@ -113,7 +109,7 @@ pub record InString (s : List ℕ) (at i n : ℕ) : Type 0 where
   pub small : n < length s
 
 module _ {s : List ℕ} {at : ℕ} where
-  in_string : (i n : ℕ) (done : List ℕ) → IsQuoted s at (string_end s at) → n ≡ length done → string_at s i ≡ Ends (string_end s at)
+  in_string : (i n : ℕ) (done : List ℕ) → IsQuoted s at (string_end s at) → n ≡ length done → string_at s i ≡ Ok (string_end s at)
       → string_bytes s at ≡ done ++ (spell_chars (chars_at s i) ++ (0x22 ∷ [])) → InString s at i n
   in_string i n done q c h e =
       let u = spell_chars (chars_at s i) in
@@ -149,17 +145,17 @@ module _ {s : List ℕ} {at : ℕ} where
       -- w is written for what stands there, and the string goes on at j
       record Passed (j : ℕ) (w : List ℕ) : Type 0 where
         pub further : i < j
-        pub goes-on : string_at s j ≡ Ends (string_end s at)
+        pub goes-on : string_at s j ≡ Ok (string_end s at)
         pub splits : spell_chars (chars_at s i) ≡ w ++ spell_chars (chars_at s j)
 
-      escaped : (o : Step) → char_at s i ≡ o → Passed (next_of i o) (bytes_of o)
-      escaped (Char v j) q = record {
+      escaped : (o : Reading Step) → char_at s i ≡ o → Passed (next_of i (character_in o)) (bytes_of (character_in o))
+      escaped (Ok (Char v j)) q = record {
         further = (char_next s i v j q).0;
         goes-on = sym (string_char s i v j q) ∙ g.goes-on;
         splits = ap spell_chars (chars_char s i v j q);
       }
-      escaped Quote q = absurd (b (quote_byte s i (string_end s at) q g.goes-on))
-      escaped (Refused c p) q = absurd (not_refused s i c p (string_end s at) q g.goes-on)
+      escaped (Ok Quote) q = absurd (b (quote_byte s i (string_end s at) q g.goes-on))
+      escaped (Err r) q = absurd (not_refused s i (string_end s at) q g.goes-on)
 
       copied : eqb (byte_at s i) 0x5C ≡ false → Passed (ordinary_end s i) (part s i (ordinary_end s i))
       copied f =

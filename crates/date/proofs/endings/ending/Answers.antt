@@ -1,12 +1,11 @@
--- `date::endings::ending` meets its contract: without a point, with digits behind it, and without.
-use Rattle.date.proofs.endings.Laws.{no_point, no_fraction, fraction}
+-- `date::endings::ending` meets its contract, with a fraction.
+use mathlib.Core.Path.{refl, ◌∙◌}
+use Rattle.chars.specs.Strings.{chars_at}
+use Rattle.date.proofs.endings.Laws.{fraction}
 use Rattle.date.proofs.endings.ending.Goals as goal
 
-pub returns-in_default : goal.returns-in_default
-returns-in_default c = search no_point
-
-pub returns-in-Read : goal.returns-in-Read
-returns-in-Read c = search fraction
-
-pub returns-in-Wrong : goal.returns-in-Wrong
-returns-in-Wrong c = search no_fraction
+pub returns : goal.returns
+returns c =
+    let l = chars_at c.args.body.now c.args.at in
+    let point = c.in-Some.ensures l 0 refl in
+    c.digits.ensures ∙ fraction _ l _ point.0 (c.in_ok-next.ensures l 1 point.1)

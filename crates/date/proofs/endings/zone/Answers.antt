@@ -1,18 +1,11 @@
--- `date::endings::zone` meets its contract: a letter with nothing behind it, or with more; an offset with either sign, or none.
-use Rattle.date.proofs.endings.Laws.{letter_ends, letter_more, ahead_read, behind_read, no_offset}
+-- `date::endings::zone` meets its contract, with a letter.
+use mathlib.Core.Path.{refl, ◌∙◌}
+use Rattle.chars.specs.Strings.{chars_at}
+use Rattle.date.proofs.endings.Laws.{letter_read}
 use Rattle.date.proofs.endings.zone.Goals as goal
 
-pub returns-then-ends : goal.returns-then-ends
-returns-then-ends c = search letter_ends
-
-pub returns-in-Behind : goal.returns-in-Behind
-returns-in-Behind c = search letter_more
-
-pub returns-then-ahead-lt-DAY : goal.returns-then-ahead-lt-DAY
-returns-then-ahead-lt-DAY c = search ahead_read
-
-pub returns-then-behind-lt-DAY : goal.returns-then-behind-lt-DAY
-returns-then-behind-lt-DAY c = search behind_read
-
-pub returns : goal.returns
-returns c = search no_offset
+pub returns-in-Some : goal.returns-in-Some
+returns-in-Some c =
+    let l = chars_at c.args.body.now c.args.at in
+    let letter = c.in-Some.ensures l 0 refl in
+    c.then_some.ensures ∙ letter_read l letter.0 _ (c.ends.ensures l 1 letter.1)

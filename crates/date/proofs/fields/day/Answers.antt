@@ -1,18 +1,22 @@
--- `date::fields::day` meets its contract: without the year, the month or the day, and where the calendar decides.
-use Rattle.date.proofs.fields.Laws.{no_year, no_month, no_day, off_calendar, day_read}
+-- `date::fields::day` meets its contract: the year is small, and the calendar decides.
+use mathlib.Core.Path.{refl}
+use Rattle.chars.specs.Strings.{characters}
+use Rattle.date.proofs.fields.Laws.{year_small, off_calendar, day_read}
 use Rattle.date.proofs.fields.day.Goals as goal
 
-pub returns-in_default : goal.returns-in_default
-returns-in_default c = search no_year
+pub new-requires : goal.new-requires
+new-requires c = year_small _ _ (c.in_ok-year.ensures (characters c.args.body.now) 0 refl)
 
-pub returns-in_default-marked : goal.returns-in_default-marked
-returns-in_default-marked c = search no_month
-
-pub returns-in_default-marked-2 : goal.returns-in_default-marked-2
-returns-in_default-marked-2 c = search no_day
-
-pub returns-then-not-in_calendar : goal.returns-then-not-in_calendar
-returns-then-not-in_calendar c = search off_calendar
+pub returns-in_err-day-2 : goal.returns-in_err-day-2
+returns-in_err-day-2 c =
+    let l = characters c.args.body.now in
+    let year = c.in_ok-year.ensures l 0 refl in
+    let month = c.in_ok-month.ensures l 4 year.2 in
+    rw c.from_residual-in_err-day-2.ensures (off_calendar _ _ year _ _ month (c.in_ok-day.ensures l 7 month.2) c.in_err-day-2.ensures)
 
 pub returns : goal.returns
-returns c = search day_read
+returns c =
+    let l = characters c.args.body.now in
+    let year = c.in_ok-year.ensures l 0 refl in
+    let month = c.in_ok-month.ensures l 4 year.2 in
+    day_read _ _ year _ _ month (c.in_ok-day.ensures l 7 month.2) _ c.in_ok-day-2.ensures

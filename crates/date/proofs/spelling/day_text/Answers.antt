@@ -1,21 +1,20 @@
--- `date::spelling::day_text` meets its contract: before the first day, behind the last, and between.
-use Rattle.date.proofs.spelling.Laws.{before_first, behind_last, moved_fits, moved_casts, moved_few, text_is}
+-- `date::spelling::day_text` meets its contract: the first and the last day have those numbers.
+use native.Mathlib.Omega.{arith}
+use lib.IntN.{pos, negsuc}
+use lib.Signed.{◌≤ℤ◌}
+use Rattle.std.proofs.lemmas.Int.{ints}
+use Rattle.model.proofs.DayNumbers.{least_number, greatest_number}
+use Rattle.date.proofs.spelling.Laws.{is_number, writes}
 use Rattle.date.proofs.spelling.day_text.Goals as goal
 
-pub returns-then-number-lt-FIRST : goal.returns-then-number-lt-FIRST
-returns-then-number-lt-FIRST c = before_first _ c.ranges.number c.if-number-lt-FIRST.true
+pub returns-in-minus719528-to-2932896 : goal.returns-in-minus719528-to-2932896
+returns-in-minus719528-to-2932896 c =
+    let least : negsuc 719527 ≤ℤ c.args.number = omega (arith, ints) in
+    let greatest : c.args.number ≤ℤ pos 2932896 = omega (arith, ints) in
+    (is_number c.args.number least greatest, writes _ _ _ c.text.ensures (omega (arith, ints)))
 
-pub returns-then-number-gt-LAST : goal.returns-then-number-gt-LAST
-returns-then-number-gt-LAST c = behind_last _ c.ranges.number c.if-number-lt-FIRST.false c.if-number-gt-LAST.true
+pub returns-in_default : goal.returns-in_default
+returns-in_default c = rw (least_number, greatest_number) (grind (arith, ints))
 
-pub overflow_sub-number : goal.overflow_sub-number
-overflow_sub-number c = moved_fits _ c.ranges.number c.if-number-lt-FIRST.false c.if-number-gt-LAST.false
-
-pub overflow_cast-number : goal.overflow_cast-number
-overflow_cast-number c = moved_casts _ c.ranges.number c.if-number-lt-FIRST.false c.if-number-gt-LAST.false
-
-pub counted-requires : goal.counted-requires
-counted-requires c = moved_few _ c.ranges.number c.if-number-lt-FIRST.false c.if-number-gt-LAST.false
-
-pub returns : goal.returns
-returns c = text_is _ c.ranges.number c.if-number-lt-FIRST.false c.if-number-gt-LAST.false _ c.counted.ensures
+pub returns-in_default-2 : goal.returns-in_default-2
+returns-in_default-2 c = rw (least_number, greatest_number) (grind (arith, ints))

@@ -11,12 +11,12 @@ abbrev pub decreases-array : goal.decreases-array
 decreases-array l = 4 * l.depth + 3
 
 -- ---- array
-abbrev pub invariant-array-loop-code : goal.invariant-array-loop-code
-invariant-array-loop-code l =
+abbrev pub invariant-array-loop-scanned : goal.invariant-array-loop-scanned
+invariant-array-loop-scanned l =
     InArray l.text l.depth l.at l.row l.initial.heads l.initial.marks l.heads l.marks l.rows l.children l.i
 
-abbrev pub decreases-array-loop-code : goal.decreases-array-loop-code
-decreases-array-loop-code l = length l.text - l.i
+abbrev pub decreases-array-loop-scanned : goal.decreases-array-loop-scanned
+decreases-array-loop-scanned l = length l.text - l.i
 
 abbrev pub decreases-item : goal.decreases-item
 decreases-item l = 4 * l.depth + 1
@@ -28,12 +28,12 @@ abbrev pub decreases-object : goal.decreases-object
 decreases-object l = 4 * l.depth + 3
 
 -- ---- object
-abbrev pub invariant-object-loop-code : goal.invariant-object-loop-code
-invariant-object-loop-code l =
+abbrev pub invariant-object-loop-scanned : goal.invariant-object-loop-scanned
+invariant-object-loop-scanned l =
     InObject l.text l.depth l.at l.row l.initial.heads l.initial.marks l.heads l.marks l.rows l.children l.i
 
-abbrev pub decreases-object-loop-code : goal.decreases-object-loop-code
-decreases-object-loop-code l = length l.text - l.i
+abbrev pub decreases-object-loop-scanned : goal.decreases-object-loop-scanned
+decreases-object-loop-scanned l = length l.text - l.i
 
 abbrev pub decreases-value : goal.decreases-value
 decreases-value l = 4 * l.depth

@@ -9,7 +9,7 @@ use Rattle.samples.proofs.fresh.begins.Goals as goal
 
 pub returns-then-value-peek : goal.returns-then-value-peek
 returns-then-value-peek c =
-    let read : char_at c.args.name.now c.loop-k.i ≡ Char c.in-Char.value c.in-Char.next =
+    let read : char_at c.args.name.now c.loop-k.i ≡ Ok (Char c.in-Char.value c.in-Char.next) =
     sym c.char_at.ensures ∙ c.in-Char.is in
     sym (c.loop-k.invariant ∙ begins_not _ _ c.loop-k-test.true (chars_char _ _ _ _ read) (λ e. c.if-value-peek.true (e ∙ sym c.peek.ensures)))
 
@@ -18,7 +18,7 @@ loop-k-smaller c = omega (arith, c.loop-k-test.true)
 
 pub loop-k-preserved : goal.loop-k-preserved
 loop-k-preserved c =
-    let read : char_at c.args.name.now c.loop-k.i ≡ Char c.in-Char.value c.in-Char.next =
+    let read : char_at c.args.name.now c.loop-k.i ≡ Ok (Char c.in-Char.value c.in-Char.next) =
     sym c.char_at.ensures ∙ c.in-Char.is in
     c.loop-k.invariant ∙ begins_on _ _ c.loop-k-test.true (chars_char _ _ _ _ read) (c.if-value-peek.false ∙ c.peek.ensures)
 

@@ -1,5 +1,6 @@
 -- `schema::judging::judge_date` meets its contract: a value that is no string, a string that is no date, and a date; `DateTimes` has a law for each.
 use mathlib.Core.Path.{◌≡◌, sym, ◌∙◌}
+use Rattle.std.proofs.Common.{rules}
 use Rattle.date.specs.Moments.{moment_of}
 use Rattle.syntax.specs.Grammar.{name_of}
 use Rattle.rows.proofs.Facts.{in_table, string_quoted, quotes_read}
@@ -26,5 +27,5 @@ pub returns : goal.returns
 returns c =
     let told : c.moment_of.result ≡ moment_of (name_of c.args.document.now c.row_at-value.result.first c.row_at-value.result.end) =
     rw c.between.ensures at c.moment_of.ensures in
-    date_is c.row_at-value.ensures c.if-value-ne6.false told c.in-At.is (record { sfits = c.in-At.known_told-1-own.given.0.1 })
+    date_is c.row_at-value.ensures c.if-value-ne6.false told c.in-Some.is (search rules)
     c.count.ensures c.none.ensures

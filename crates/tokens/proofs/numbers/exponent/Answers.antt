@@ -1,4 +1,5 @@
 -- `tokens::numbers::exponent` meets its contract. A letter is not 0, so it lies within the text, as `power` requires.
+use mathlib.Core.Path.{refl}
 use Prim.Native.Nat.{◌<◌}
 use native.Mathlib.Omega.{arith}
 use lib.ListN.{length}
@@ -19,11 +20,11 @@ power-requires-in-101 c =
     within (omega arith)
 
 pub returns-in-69 : goal.returns-in-69
-returns-in-69 c = λ k e. letter_upper _ _ (omega arith) k c.in-69.is c.power.ensures
+returns-in-69 c = letter_upper _ _ (omega arith) _ c.in-69.is c.power.ensures
 
 pub returns-in-101 : goal.returns-in-101
-returns-in-101 c = λ k e. letter_lower _ _ (omega arith) k c.in-101.is c.power-in-101.ensures
+returns-in-101 c = letter_lower _ _ (omega arith) _ c.in-101.is c.power-in-101.ensures
 
 pub returns-in_default : goal.returns-in_default
 returns-in_default c =
-    λ k e. no_letter _ _ (omega arith) k c.in_default.in_default-own.rest.0.1 c.in_default.in_default-own.rest.1 (rw e)
+    no_letter _ _ (omega arith) _ c.in_default.in_default-own.rest.0.1 c.in_default.in_default-own.rest.1 refl

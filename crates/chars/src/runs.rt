@@ -1,0 +1,17 @@
+// Runs of bytes that pass a test.
+ghost use Rattle.std.specs.Prelude.{◌≡◌, ℕ, Bool};
+ghost use Rattle.chars.specs.Runs.{run, Answers};
+
+// The first place from `at` on whose byte does not pass the test.
+pub fn run_end<F: Fn(u8) -> bool>(text: &[u8], at: usize, passes: F) -> usize
+    requires { F.IsAlwaysCallable passes }
+    ensures { (p : ℕ → Bool) → Answers (F.post passes) p → result ≡ run p text.now at }
+{
+    match text.get(at..) {
+        Some(rest) => match rest.iter().position(|b| !passes(*b)) {
+            Some(length) => at + length,
+            None => text.len(),
+        },
+        None => at,
+    }
+}
