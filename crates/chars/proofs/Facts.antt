@@ -3,7 +3,7 @@
 -- runs of bytes
 pub use Rattle.chars.proofs.runs.Laws.{run_end, run_ended, run-from, run_left, run_next, run_over, run_stop, run_within}
 -- classes of bytes, and tests
-pub use Rattle.chars.proofs.bytes.Laws.{beside, digit_in, digit_ways, highest_most, highest_of, in_text, lowest_least, lowest_of, outside, six_ways}
+pub use Rattle.chars.proofs.bytes.Laws.{beside, digit_in, highest_most, highest_of, in_text, lowest_least, lowest_of, outside}
 -- the last number that passes a test
 pub use Rattle.chars.proofs.hashing.Last.{last_before, last_found, last_here, last_most, last_none, last_nothing, last_same, last_skips}
 -- characters

@@ -1,5 +1,5 @@
 -- The tree of a character, and that it is what the reader reads.
-use Prim.Native.Nat.{ℕ, ◌+◌, ◌-◌, ◌*◌, ◌≤◌, ◌<◌}
+use Prim.Native.Nat.{ℕ, ◌+◌, ◌-◌, ◌*◌, ◌≤◌}
 use mathlib.Core.Path.{◌≡◌, refl}
 use mathlib.Core.Bool.{Bool, true, false, cond, not, ◌&&◌, ◌||◌}
 use mathlib.Core.List.{List}
@@ -44,7 +44,7 @@ hex_value b = unwrap_or (digit b) 0
 abbrev pub pair_tree : (ℕ → Bool) → (ℕ → Tree) → Tree
 pair_tree good f =
     next hex code_of
-    (λ a. next (λ b. cond (hex b) (good (16 * hex_value a + hex_value b)) false) (λ b. cond (hex b) LoneSurrogate (code_of b))
+    (λ a. next (λ b. hex b && good (16 * hex_value a + hex_value b)) (λ b. cond (hex b) LoneSurrogate (code_of b))
     (λ b. f (16 * hex_value a + hex_value b)))
 
 abbrev pub any : ℕ → Bool
@@ -82,7 +82,7 @@ unicode_tree = pair_tree no_low rest_tree
 
 -- behind a backslash
 abbrev pub escape_tree : Tree
-escape_tree = next (λ b. cond (eqb b 0x75) true (is_some (escape_of b))) code_of (λ b. cond (eqb b 0x75) unicode_tree (give (unwrap_or (escape_of b) 0)))
+escape_tree = next (λ b. eqb b 0x75 || is_some (escape_of b)) code_of (λ b. cond (eqb b 0x75) unicode_tree (give (unwrap_or (escape_of b) 0)))
 
 -- a byte from lo to hi that continues a character, and what follows its six bits
 abbrev pub tail : ℕ → ℕ → ℕ → Bool

@@ -5,8 +5,8 @@ use mathlib.Core.Logic.{inl, inr, ⊎_elim}
 use mathlib.Core.Bool.{Bool, true, false, cond, ◌||◌, and-eq-true_iff}
 use mathlib.Core.List.{List, [], ◌∷◌}
 use native.Mathlib.Omega.{arith}
-use lib.Dec.{ltb, leb, eqb}
-use borrow.Author.Tests.{ltb-true, ltb-false, leb-true, eqb-true, eqb-false, lt-ltb, le-ltb, le-leb, eq-eqb, ne_eqb}
+use lib.Dec.{ltb, eqb}
+use borrow.Author.Tests.{ltb-true, ltb-false, eqb-true, eqb-false, lt-ltb, le-ltb, ne_eqb}
 use Rattle.chars.specs.Bytes.{from_to, digit, escape_of, lowest, highest, six_bits}
 use Rattle.chars.specs.Characters.{pair_value}
 use Rattle.std.specs.Prelude.{Option, Some, is_some, unwrap_or}
@@ -199,11 +199,8 @@ module _ (good : ℕ → Bool) (f : ℕ → Tree) where
       → ((a b x y : ℕ) (r : List ℕ) → IsHexDigit a x → IsHexDigit b y → good (16 * x + y) ≡ true → Lang (f (16 * x + y)) r v → P (a ∷ b ∷ r)) → P w
   pair_ways P [] v h k = absurd h
   pair_ways P (a ∷ []) v h k = absurd h.1
-  pair_ways P (a ∷ b ∷ r) v h k = let g = guarded (hex b) _ h.1.0 in k a b (hex_value a) (hex_value b) r (is_digit_lem a h.0) (is_digit_lem b g.0) g.1 h.1.1
-    where
-      guarded : (p q : Bool) → cond p q false ≡ true → (p ≡ true) × (q ≡ true)
-      guarded true q t = (refl, t)
-      guarded false q t = clash false t refl
+  pair_ways P (a ∷ b ∷ r) v h k =
+      let g = (and-eq-true_iff (hex b) _).0 h.1.0 in k a b (hex_value a) (hex_value b) r (is_digit_lem a h.0) (is_digit_lem b g.0) g.1 h.1.1
 
   pair_lang : {a b x y : ℕ} (r : List ℕ) (v : ℕ) → IsHexDigit a x → IsHexDigit b y → good (16 * x + y) ≡ true → Lang (f (16 * x + y)) r v
       → Lang (pair_tree good f) (a ∷ b ∷ r) v
@@ -218,7 +215,7 @@ module _ (high : ℕ) where
   low_ways P (a ∷ b ∷ []) v h k = absurd h.1.1
   low_ways P (a ∷ b ∷ c ∷ []) v h k = absurd h.1.1.1
   low_ways P (a ∷ b ∷ c ∷ d ∷ w) v h k =
-      let i = (and-eq-true_iff (hex d) (from_to 12 15 (hex_value d))).0 h.1.1.1.0 in
+      let i = (and-eq-true_iff (hex d) _).0 h.1.1.1.0 in
       let j = ranged 12 15 (hex_value d) i.1 in
       let c-digit = thirteen c h.1.1.0 in
       let d-digit = is_digit_lem d i.0 in
