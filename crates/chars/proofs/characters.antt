@@ -1,3 +1,2 @@
-pub mod Escapes
 pub mod Laws
 pub mod Utf8

@@ -1,5 +1,5 @@
 -- What stands at a place i of a string of the text s.
-use Rattle.std.specs.Prelude.{ℕ, ◌+◌, ◌-◌, ◌*◌, List, Bool, cond, length, ltb, leb, eqb, Ok, Err, Option, Some, None}
+use Rattle.std.specs.Prelude.{ℕ, ◌+◌, ◌-◌, ◌*◌, List, Bool, cond, ◌||◌, length, ltb, eqb, Ok, Err, Option, Some, None}
 use Rattle.chars.specs.declared.characters.Character.{Character}
 use Rattle.chars.specs.declared.characters.Step.{Step}
 use Rattle.chars.specs.declared.characters.Step.TheVariants.{Char, Quote}
@@ -24,12 +24,16 @@ wrong s i = refusal_at s i (code_of (byte_at s i))
 abbrev pub need : Bool → Reading Step → Reading Step → Reading Step
 need t other go = cond t go other
 
+-- where there is a value, what follows on it; otherwise the offence
+abbrev pub need_some : {A B : Type 0} → Option A → Reading B → (A → Reading B) → Reading B
+need_some (Some x) other k = k x
+need_some None other k = other
+
 -- two hex digits
 unfoldable pub hex_pair : List ℕ → ℕ → Reading ℕ
 hex_pair s i =
-    let a = digit (byte_at s i) in
-    let b = digit (byte_at s (i + 1)) in
-    cond (leb a 15) (cond (leb b 15) (Ok (16 * a + b)) (Err (wrong s (i + 1)))) (Err (wrong s i))
+    need_some (digit (byte_at s i)) (Err (wrong s i)) (λ a.
+    need_some (digit (byte_at s (i + 1))) (Err (wrong s (i + 1))) (λ b. Ok (16 * a + b)))
 
 -- what follows on two digits
 abbrev pub with_pair : (ℕ → Reading Step) → Reading ℕ → Reading Step
@@ -43,12 +47,12 @@ pair_value high low = 0x10000 + 0x400 * (high - 0xD800) + (low - 0xDC00)
 -- behind the escape of a high surrogate: `\`, `u`, D or d, a digit C to F, and two digits more
 unfoldable pub partner_at : List ℕ → ℕ → ℕ → Reading Step
 partner_at s i high =
-    let d = digit (byte_at s (i + 3)) in
     need (eqb (byte_at s i) 0x5C) (stop_at s i LoneSurrogate)
     (need (eqb (byte_at s (i + 1)) 0x75) (stop_at s (i + 1) LoneSurrogate)
-    (need (eqb (digit (byte_at s (i + 2))) 13) (stop_at s (i + 2) LoneSurrogate)
-    (need (from_to 12 15 d) (stop_at s (i + 3) LoneSurrogate)
-    (with_pair (λ l. Ok (Char (pair_value high (256 * (0xD0 + d) + l)) (i + 6))) (hex_pair s (i + 4))))))
+    (need (eqb (byte_at s (i + 2)) 0x44 || eqb (byte_at s (i + 2)) 0x64) (stop_at s (i + 2) LoneSurrogate)
+    (need_some (digit (byte_at s (i + 3))) (stop_at s (i + 3) LoneSurrogate) (λ d.
+    need (from_to 12 15 d) (stop_at s (i + 3) LoneSurrogate)
+    (with_pair (λ l. Ok (Char (pair_value high (256 * (0xD0 + d) + l)) (i + 6))) (hex_pair s (i + 4)))))))
 
 -- the escape at i, whose first two digits are h
 unfoldable pub rest_at : List ℕ → ℕ → ℕ → Reading Step
@@ -62,32 +66,26 @@ unicode_at s i = with_pair (λ h. cond (from_to 0xDC 0xDF h) (Err (refusal LoneS
 unfoldable pub escape_at : List ℕ → ℕ → Reading Step
 escape_at s i =
     let b = byte_at s (i + 1) in
-    cond (eqb b 0x75) (unicode_at s i) (cond (eqb (escape_of b) 0) (Err (wrong s (i + 1))) (Ok (Char (escape_of b) (i + 2))))
+    cond (eqb b 0x75) (unicode_at s i) (need_some (escape_of b) (Err (wrong s (i + 1))) (λ v. Ok (Char v (i + 2))))
 
 -- characters of two, three and four bytes, of which the first, b, is at i
 unfoldable pub two_at : List ℕ → ℕ → ℕ → Reading Step
 two_at s i b =
-    let c = six_bits (byte_at s (i + 1)) 0x80 0xBF in
-    need (leb c 63) (stop_at s (i + 1) NotUtf8)
-    (Ok (Char (64 * (b - 0xC0) + c) (i + 2)))
+    need_some (six_bits (byte_at s (i + 1)) 0x80 0xBF) (stop_at s (i + 1) NotUtf8) (λ c.
+    Ok (Char (64 * (b - 0xC0) + c) (i + 2)))
 
 unfoldable pub three_at : List ℕ → ℕ → ℕ → Reading Step
 three_at s i b =
-    let c = six_bits (byte_at s (i + 1)) (lowest b) (highest b) in
-    let d = six_bits (byte_at s (i + 2)) 0x80 0xBF in
-    need (leb c 63) (stop_at s (i + 1) NotUtf8)
-    (need (leb d 63) (stop_at s (i + 2) NotUtf8)
-    (Ok (Char (4096 * (b - 0xE0) + 64 * c + d) (i + 3))))
+    need_some (six_bits (byte_at s (i + 1)) (lowest b) (highest b)) (stop_at s (i + 1) NotUtf8) (λ c.
+    need_some (six_bits (byte_at s (i + 2)) 0x80 0xBF) (stop_at s (i + 2) NotUtf8) (λ d.
+    Ok (Char (4096 * (b - 0xE0) + 64 * c + d) (i + 3))))
 
 unfoldable pub four_at : List ℕ → ℕ → ℕ → Reading Step
 four_at s i b =
-    let c = six_bits (byte_at s (i + 1)) (lowest b) (highest b) in
-    let d = six_bits (byte_at s (i + 2)) 0x80 0xBF in
-    let e = six_bits (byte_at s (i + 3)) 0x80 0xBF in
-    need (leb c 63) (stop_at s (i + 1) NotUtf8)
-    (need (leb d 63) (stop_at s (i + 2) NotUtf8)
-    (need (leb e 63) (stop_at s (i + 3) NotUtf8)
-    (Ok (Char (262144 * (b - 0xF0) + 4096 * c + 64 * d + e) (i + 4)))))
+    need_some (six_bits (byte_at s (i + 1)) (lowest b) (highest b)) (stop_at s (i + 1) NotUtf8) (λ c.
+    need_some (six_bits (byte_at s (i + 2)) 0x80 0xBF) (stop_at s (i + 2) NotUtf8) (λ d.
+    need_some (six_bits (byte_at s (i + 3)) 0x80 0xBF) (stop_at s (i + 3) NotUtf8) (λ e.
+    Ok (Char (262144 * (b - 0xF0) + 4096 * c + 64 * d + e) (i + 4)))))
 
 -- the character at i, by its first byte
 unfoldable pub char_from : List ℕ → ℕ → ℕ → Reading Step

@@ -21,6 +21,7 @@ pub struct Character {
 }
 
 // The byte at a place is an offence, unless the text ended before it.
+#[tactic(auto, unfolding(crate::specs::Characters::refusal_at))]
 pub fn refusal_at(text: &[u8], at: usize, code: Code) -> Refusal
     ensures { result ≡ refusal_at text.now at code }
 {
@@ -42,22 +43,22 @@ fn wrong(text: &[u8], at: usize) -> Refusal
 }
 
 // Two hex digits at a place.
+#[tactic(auto, unfolding(crate::specs::Characters::hex_pair))]
 fn hex_pair(text: &[u8], at: usize) -> Reading<u16>
     requires { at ≤ length text.now + 12 }
     ensures { result ≡ hex_pair text.now at }
 {
-    let a = digit_at(text, at);
-    if a > 15 {
+    let Some(a) = digit_at(text, at) else {
         return Err(wrong(text, at));
-    }
-    let b = digit_at(text, at + 1);
-    if b > 15 {
+    };
+    let Some(b) = digit_at(text, at + 1) else {
         return Err(wrong(text, at + 1));
-    }
+    };
     Ok((16 * a + b) as u16)
 }
 
 // Behind the escape of the high surrogate `high`.
+#[tactic(auto, using(crate::proofs::bytes::Laws::inside, crate::proofs::bytes::Laws::beside), unfolding(crate::specs::Characters::partner_at))]
 fn partner(text: &[u8], at: usize, high: u32) -> Reading<Step>
     requires { (at ≤ length text.now + 8) × (0xD800 ≤ high) × (high < 0x20000) }
     ensures { result ≡ partner_at text.now at high }
@@ -68,13 +69,12 @@ fn partner(text: &[u8], at: usize, high: u32) -> Reading<Step>
     if peek(text, at + 1) != b'u' {
         return Err(refusal_at(text, at + 1, Code::LoneSurrogate));
     }
-    if digit_at(text, at + 2) != 13 {
+    if !matches!(peek(text, at + 2), b'D' | b'd') {
         return Err(refusal_at(text, at + 2, Code::LoneSurrogate));
     }
-    let d = digit_at(text, at + 3);
-    if d < 12 || d > 15 {
+    let Some(d @ 12..=15) = digit_at(text, at + 3) else {
         return Err(refusal_at(text, at + 3, Code::LoneSurrogate));
-    }
+    };
     let l = hex_pair(text, at + 4)?;
     let low = 256 * (0xd0 + wide(d)) + l as u32;
     Ok(Step::Char {
@@ -84,6 +84,7 @@ fn partner(text: &[u8], at: usize, high: u32) -> Reading<Step>
 }
 
 // The last two digits of the escape at a place, behind the first two.
+#[tactic(auto, using(crate::proofs::bytes::Laws::inside, crate::proofs::bytes::Laws::beside), unfolding(crate::specs::Characters::rest_at))]
 fn rest(text: &[u8], at: usize, first: u16) -> Reading<Step>
     requires { at ≤ length text.now }
     ensures { result ≡ rest_at text.now at first }
@@ -100,6 +101,7 @@ fn rest(text: &[u8], at: usize, first: u16) -> Reading<Step>
 }
 
 // The escape at a place, with four hex digits.
+#[tactic(auto, using(crate::proofs::bytes::Laws::inside, crate::proofs::bytes::Laws::beside), unfolding(crate::specs::Characters::unicode_at))]
 fn unicode(text: &[u8], at: usize) -> Reading<Step>
     requires { at ≤ length text.now }
     ensures { result ≡ unicode_at text.now at }
@@ -115,6 +117,7 @@ fn unicode(text: &[u8], at: usize) -> Reading<Step>
 }
 
 // The escape whose backslash stands at a place.
+#[tactic(auto, unfolding(crate::specs::Characters::escape_at))]
 fn escape(text: &[u8], at: usize) -> Reading<Step>
     requires { at ≤ length text.now }
     ensures { result ≡ escape_at text.now at }
@@ -123,10 +126,9 @@ fn escape(text: &[u8], at: usize) -> Reading<Step>
     if b == b'u' {
         return unicode(text, at);
     }
-    let value = escape_of(b);
-    if value == 0 {
+    let Some(value) = escape_of(b) else {
         return Err(wrong(text, at + 1));
-    }
+    };
     Ok(Step::Char {
         value: wide(value),
         next: at + 2,
@@ -134,54 +136,51 @@ fn escape(text: &[u8], at: usize) -> Reading<Step>
 }
 
 // The characters of UTF-8 with two, three and four bytes, of which the first is `b`.
+#[tactic(auto, unfolding(crate::specs::Characters::two_at))]
 fn two(text: &[u8], at: usize, b: u8) -> Reading<Step>
     requires { (at ≤ length text.now) × (0xC2 ≤ b) × (b < 0xE0) }
     ensures { result ≡ two_at text.now at b }
 {
-    let c = six_at(text, at + 1, 0x80, 0xbf);
-    if c > 63 {
+    let Some(c) = six_at(text, at + 1, 0x80, 0xbf) else {
         return Err(refusal_at(text, at + 1, Code::NotUtf8));
-    }
+    };
     Ok(Step::Char {
         value: 64 * (wide(b) - 0xc0) + c,
         next: at + 2,
     })
 }
 
+#[tactic(auto, using(crate::proofs::bytes::Laws::lowest_least), unfolding(crate::specs::Characters::three_at))]
 fn three(text: &[u8], at: usize, b: u8) -> Reading<Step>
     requires { (at ≤ length text.now) × (0xE0 ≤ b) × (b < 0xF0) }
     ensures { result ≡ three_at text.now at b }
 {
-    let c = six_at(text, at + 1, lowest(b), highest(b));
-    if c > 63 {
+    let Some(c) = six_at(text, at + 1, lowest(b), highest(b)) else {
         return Err(refusal_at(text, at + 1, Code::NotUtf8));
-    }
-    let d = six_at(text, at + 2, 0x80, 0xbf);
-    if d > 63 {
+    };
+    let Some(d) = six_at(text, at + 2, 0x80, 0xbf) else {
         return Err(refusal_at(text, at + 2, Code::NotUtf8));
-    }
+    };
     Ok(Step::Char {
         value: 4096 * (wide(b) - 0xe0) + 64 * c + d,
         next: at + 3,
     })
 }
 
+#[tactic(auto, using(crate::proofs::bytes::Laws::lowest_least), unfolding(crate::specs::Characters::four_at))]
 fn four(text: &[u8], at: usize, b: u8) -> Reading<Step>
     requires { (at ≤ length text.now) × (0xF0 ≤ b) × (b < 0xF5) }
     ensures { result ≡ four_at text.now at b }
 {
-    let c = six_at(text, at + 1, lowest(b), highest(b));
-    if c > 63 {
+    let Some(c) = six_at(text, at + 1, lowest(b), highest(b)) else {
         return Err(refusal_at(text, at + 1, Code::NotUtf8));
-    }
-    let d = six_at(text, at + 2, 0x80, 0xbf);
-    if d > 63 {
+    };
+    let Some(d) = six_at(text, at + 2, 0x80, 0xbf) else {
         return Err(refusal_at(text, at + 2, Code::NotUtf8));
-    }
-    let e = six_at(text, at + 3, 0x80, 0xbf);
-    if e > 63 {
+    };
+    let Some(e) = six_at(text, at + 3, 0x80, 0xbf) else {
         return Err(refusal_at(text, at + 3, Code::NotUtf8));
-    }
+    };
     Ok(Step::Char {
         value: 262144 * (wide(b) - 0xf0) + 4096 * c + 64 * d + e,
         next: at + 4,
@@ -189,6 +188,7 @@ fn four(text: &[u8], at: usize, b: u8) -> Reading<Step>
 }
 
 // What stands at a place of a string, whichever it is.
+#[tactic(auto, unfolding(crate::specs::Characters::char_at, crate::specs::Characters::char_from))]
 pub fn special(text: &[u8], at: usize) -> Reading<Step>
     ensures { result ≡ char_at text.now at }
 {
@@ -211,6 +211,7 @@ pub fn special(text: &[u8], at: usize) -> Reading<Step>
 }
 
 // The same: a byte that stands for itself, and the closing quote, are told without a call.
+#[tactic(auto, using(crate::proofs::plain::Laws::plain_read, crate::proofs::plain::Laws::quote_char))]
 pub fn char_at(text: &[u8], at: usize) -> Reading<Step>
     ensures { result ≡ char_at text.now at }
 {

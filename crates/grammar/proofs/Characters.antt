@@ -1,23 +1,24 @@
 -- The tree of a character takes the bytes of the written grammar, and no others.
 use Prim.Native.Nat.{ℕ, ◌+◌, ◌-◌, ◌*◌, ◌≤◌, ◌<◌}
-use mathlib.Core.Path.{◌≡◌, refl, subst}
+use mathlib.Core.Path.{◌≡◌, refl, ap, subst}
 use mathlib.Core.Logic.{inl, inr, ⊎_elim}
-use mathlib.Core.Bool.{Bool, true, false, cond, not}
+use mathlib.Core.Bool.{Bool, true, false, cond, ◌||◌, and-eq-true_iff}
 use mathlib.Core.List.{List, [], ◌∷◌}
 use native.Mathlib.Omega.{arith}
-use lib.Dec.{ltb, leb, eqb}
-use borrow.Author.Tests.{ltb-true, ltb-false, leb-true, eqb-true, eqb-false, lt-ltb, le-ltb, le-leb, eq-eqb, ne_eqb}
+use lib.Dec.{ltb, eqb}
+use borrow.Author.Tests.{ltb-true, ltb-false, eqb-true, eqb-false, lt-ltb, le-ltb, ne_eqb}
 use Rattle.chars.specs.Bytes.{from_to, digit, escape_of, lowest, highest, six_bits}
 use Rattle.chars.specs.Characters.{pair_value}
+use Rattle.std.specs.Prelude.{Option, Some, is_some, unwrap_or}
 use Rattle.model.proofs.Basics.{both, clash, by_test, not-true}
-use Rattle.chars.proofs.Facts.{six_ways, lowest_least, lowest_of, highest_of, outside}
+use Rattle.chars.proofs.Facts.{highest_most, lowest_least, lowest_of, highest_of, outside}
 use Rattle.grammar.specs.Utf8.{In, IsTail, StartsThree, e0, e1_ec, ed, ee_ef, StartsFour, f0, f1_f3, f4, IsUtf8, utf8_1, utf8_2, utf8_3, utf8_4}
 use Rattle.grammar.specs.Written.{IsUnescaped, IsHexDigit, decimal, upper, lower, IsHex, hex as hex-digits, IsChar, unescaped, short}
 use Rattle.grammar.specs.Written.{unicode, surrogates, IsShort, quotation_mark, reverse_solidus, solidus, backspace, form_feed}
 use Rattle.grammar.specs.Written.{line_feed, carriage_return, tab}
 use Rattle.grammar.proofs.Utf8.{utf8_range, utf8_wide, three_bits, four_bits, starts_three, starts_four}
 use Rattle.grammar.proofs.Trees.{Tree, give, Lang}
-use Rattle.grammar.proofs.CharTrees.{ranged, in_range, not_in, hex, pair_tree, any, joined_tree, partner_tree, digits_tree, rest_tree, no_low}
+use Rattle.grammar.proofs.CharTrees.{ranged, in_range, not_in, hex, hex_value, pair_tree, any, joined_tree, partner_tree, digits_tree, rest_tree, no_low}
 use Rattle.grammar.proofs.CharTrees.{unicode_tree, escape_tree, tail_tree, two, three, four, two_tree, three_tree, four_tree, wide_tree}
 use Rattle.grammar.proofs.CharTrees.{char_tree}
 
@@ -31,18 +32,17 @@ give_ways P u (c ∷ w) v e h = absurd e
 -- a byte that continues a character
 tail_ways : (lo hi : ℕ) (f : ℕ → Tree) (P : List ℕ → Type 0) (w : List ℕ) (v : ℕ) → Lang (tail_tree lo hi f) w v
     → ((c : ℕ) (r : List ℕ) → In lo hi c → Lang (f (c - 0x80)) r v → P (c ∷ r)) → P w
-tail_ways lo hi f P [] v h k = absurd h
-tail_ways lo hi f P (c ∷ r) v h k = let x = six_ways c lo hi (leb-true _ _ h.0) in k c r (x.0, x.1) (rw x.2 at h.1)
-
-tail_lang : (lo hi : ℕ) (f : ℕ → Tree) (c : ℕ) (r : List ℕ) (v : ℕ) → In lo hi c → IsTail c → Lang (f (c - 0x80)) r v → Lang (tail_tree lo hi f) (c ∷ r) v
 unfolding six_bits
-tail_lang lo hi f c r v i t h = rw (in_range lo hi c i, le-leb (c - 0x80) 63 (omega arith)) (refl, h)
+tail_ways lo hi f P [] v h k = absurd h
+tail_ways lo hi f P (c ∷ r) v h k =
+    both (λ o. is_some o ≡ true → Lang (f (unwrap_or o 0)) r v → P (c ∷ r)) (from_to lo hi c)
+    (λ t _. k c r (ranged lo hi c t)) (λ _ t. clash false t refl) h.0 h.1
+
+tail_lang : (lo hi : ℕ) (f : ℕ → Tree) (c : ℕ) (r : List ℕ) (v : ℕ) → In lo hi c → Lang (f (c - 0x80)) r v → Lang (tail_tree lo hi f) (c ∷ r) v
+unfolding six_bits
+tail_lang lo hi f c r v i h = rw (in_range lo hi c i) (refl, h)
 
 -- the range of a second byte lies within that of the others, and is all of it but for E0, ED, F0 and F4
-highest_most : (b : ℕ) → highest b ≤ 0xBF
-unfolding highest
-highest_most b = both (λ x. x ≤ 0xBF) (eqb b 0xED) (λ _. omega arith) (λ _. both (λ x. x ≤ 0xBF) (eqb b 0xF4) (λ _. omega arith) (λ _. omega arith))
-
 second_tail : (b c : ℕ) → In (lowest b) (highest b) c → IsTail c
 second_tail b c h = omega (arith, lowest_least b, highest_most b)
 
@@ -119,56 +119,59 @@ utf8_lang : {w : List ℕ} {v : ℕ} → IsUtf8 w v → IsUnescaped v → Lang c
 utf8_lang (utf8_1 {b} h) (inl i) = one_lang b (omega arith) (omega arith) (omega arith)
 utf8_lang (utf8_1 {b} h) (inr (inl i)) = one_lang b (omega arith) (omega arith) (omega arith)
 utf8_lang (utf8_1 {b} h) (inr (inr i)) = one_lang b (omega arith) (omega arith) (omega arith)
-utf8_lang {v = v} (utf8_2 {b} {c} h t) u = wide_lang b (c ∷ []) v (omega arith) (rw (lt-ltb b 0xE0 (omega arith)) (tail_lang 0x80 0xBF (two b) c [] v t t refl))
+utf8_lang {v = v} (utf8_2 {b} {c} h t) u = wide_lang b (c ∷ []) v (omega arith) (rw (lt-ltb b 0xE0 (omega arith)) (tail_lang 0x80 0xBF (two b) c [] v t refl))
 utf8_lang {v = v} (utf8_3 {b} {c} {d} s t) u =
     let r = three_bits s in
     wide_lang b (c ∷ d ∷ []) v (omega arith) (rw (le-ltb b 0xE0 r.0.0, lt-ltb b 0xF0 (omega arith))
-    (tail_lang (lowest b) (highest b) (λ c. tail_tree 0x80 0xBF (three b c)) c (d ∷ []) v (three_second s) r.1
-    (tail_lang 0x80 0xBF (three b (c - 0x80)) d [] v t t refl)))
+    (tail_lang (lowest b) (highest b) (λ c. tail_tree 0x80 0xBF (three b c)) c (d ∷ []) v (three_second s)
+    (tail_lang 0x80 0xBF (three b (c - 0x80)) d [] v t refl)))
 utf8_lang {v = v} (utf8_4 {b} {c} {d} {e} s t u) _ =
     let r = four_bits s in
     wide_lang b (c ∷ d ∷ e ∷ []) v (omega arith) (rw (le-ltb b 0xE0 (omega arith), le-ltb b 0xF0 r.0.0)
-    (tail_lang (lowest b) (highest b) (λ c. tail_tree 0x80 0xBF (λ d. tail_tree 0x80 0xBF (four b c d))) c (d ∷ e ∷ []) v (four_second s) r.1
-    (tail_lang 0x80 0xBF (λ d. tail_tree 0x80 0xBF (four b (c - 0x80) d)) d (e ∷ []) v t t
-    (tail_lang 0x80 0xBF (four b (c - 0x80) (d - 0x80)) e [] v u u refl))))
+    (tail_lang (lowest b) (highest b) (λ c. tail_tree 0x80 0xBF (λ d. tail_tree 0x80 0xBF (four b c d))) c (d ∷ e ∷ []) v (four_second s)
+    (tail_lang 0x80 0xBF (λ d. tail_tree 0x80 0xBF (four b (c - 0x80) d)) d (e ∷ []) v t
+    (tail_lang 0x80 0xBF (four b (c - 0x80) (d - 0x80)) e [] v u refl))))
 
 -- ---- escapes
 
 -- of one letter
-is_short : (b : ℕ) → eqb (escape_of b) 0 ≡ false → IsShort b (escape_of b)
+abbrev Short : ℕ → Option ℕ → Type 0
+Short b o = is_some o ≡ true → IsShort b (unwrap_or o 0)
+
+is_short : (b : ℕ) → Short b (escape_of b)
 unfolding escape_of
 is_short b =
-    letter b 0x22 _ _ quotation_mark (letter b 0x5C _ _ reverse_solidus (letter b 0x2F _ _ solidus (letter b 0x62 _ _ backspace
-    (letter b 0x66 _ _ form_feed (letter b 0x6E _ _ line_feed (letter b 0x72 _ _ carriage_return (letter b 0x74 _ _ tab (λ t. clash true refl t))))))))
+    letter 0x22 _ _ quotation_mark (letter 0x5C _ _ reverse_solidus (letter 0x2F _ _ solidus (letter 0x62 _ _ backspace
+    (letter 0x66 _ _ form_feed (letter 0x6E _ _ line_feed (letter 0x72 _ _ carriage_return (letter 0x74 _ _ tab (λ t. clash false t refl))))))))
   where
-    letter : (b k x y : ℕ) → IsShort k x → (eqb y 0 ≡ false → IsShort b y) → eqb (cond (eqb b k) x y) 0 ≡ false → IsShort b (cond (eqb b k) x y)
-    letter b k x y s f = both (λ v. eqb v 0 ≡ false → IsShort b v) (eqb b k) (λ t _. rw (eqb-true b k t) s) (λ _. f)
+    letter : (k x : ℕ) (o : Option ℕ) → IsShort k x → Short b o → Short b (cond (eqb b k) (Some x) o)
+    letter k x o s f = both (Short b) (eqb b k) (λ t _. rw (eqb-true b k t) s) (λ _. f)
 
-named_of : {b v : ℕ} → IsShort b v → (escape_of b ≡ v) × (eqb v 0 ≡ false) × (eqb b 0x75 ≡ false)
+named_of : {b v : ℕ} → IsShort b v → (escape_of b ≡ Some v) × (eqb b 0x75 ≡ false)
 unfolding escape_of
-named_of quotation_mark = (refl, refl, refl)
-named_of reverse_solidus = (refl, refl, refl)
-named_of solidus = (refl, refl, refl)
-named_of backspace = (refl, refl, refl)
-named_of form_feed = (refl, refl, refl)
-named_of line_feed = (refl, refl, refl)
-named_of carriage_return = (refl, refl, refl)
-named_of tab = (refl, refl, refl)
+named_of quotation_mark = (refl, refl)
+named_of reverse_solidus = (refl, refl)
+named_of solidus = (refl, refl)
+named_of backspace = (refl, refl)
+named_of form_feed = (refl, refl)
+named_of line_feed = (refl, refl)
+named_of carriage_return = (refl, refl)
+named_of tab = (refl, refl)
 
 -- a hex digit
-digit_of : {b x : ℕ} → IsHexDigit b x → (digit b ≡ x) × (x ≤ 15)
+digit_of : {b x : ℕ} → IsHexDigit b x → (digit b ≡ Some x) × (x ≤ 15)
 unfolding digit
-digit_of (decimal x l) = (rw (in_range 0x30 0x39 (0x30 + x) (omega arith)) (omega arith), omega arith)
-digit_of (upper x l) = (rw (not_in 0x30 0x39 (0x41 + x) (omega arith), in_range 0x41 0x46 (0x41 + x) (omega arith)) (omega arith), omega arith)
+digit_of (decimal x l) = (rw (in_range 0x30 0x39 (0x30 + x) (omega arith)) (ap Some (omega arith)), omega arith)
+digit_of (upper x l) = (rw (not_in 0x30 0x39 (0x41 + x) (omega arith), in_range 0x41 0x46 (0x41 + x) (omega arith)) (ap Some (omega arith)), omega arith)
 digit_of (lower x l) = (
-  rw (not_in 0x30 0x39 (0x61 + x) (omega arith), not_in 0x41 0x46 (0x61 + x) (omega arith), in_range 0x61 0x66 (0x61 + x) (omega arith)) (omega arith),
+  rw (not_in 0x30 0x39 (0x61 + x) (omega arith), not_in 0x41 0x46 (0x61 + x) (omega arith), in_range 0x61 0x66 (0x61 + x) (omega arith)) (ap Some (omega arith)),
   omega arith,
 )
 
-is_digit_lem : (b : ℕ) → hex b ≡ true → IsHexDigit b (digit b)
+is_digit_lem : (b : ℕ) → hex b ≡ true → IsHexDigit b (hex_value b)
 unfolding digit
 is_digit_lem b =
-    let P : ℕ → Type 0 = λ x. leb x 15 ≡ true → IsHexDigit b x in
+    let P : Option ℕ → Type 0 = λ o. is_some o ≡ true → IsHexDigit b (unwrap_or o 0) in
     both P (from_to 0x30 0x39 b) (λ t _. let r = ranged 0x30 0x39 b t in spelled 0x30 (b - 0x30) (omega arith) (decimal (b - 0x30) (omega arith)))
     (λ _. both P (from_to 0x41 0x46 b) (λ t _. let r = ranged 0x41 0x46 b t in spelled 0x41 (b - 0x37) (omega arith) (upper (b - 0x41) (omega arith)))
     (λ _. both P (from_to 0x61 0x66 b) (λ t _. let r = ranged 0x61 0x66 b t in spelled 0x61 (b - 0x57) (omega arith) (lower (b - 0x61) (omega arith)))
@@ -176,6 +179,16 @@ is_digit_lem b =
   where
     spelled : {x : ℕ} (lo y : ℕ) → (lo + (b - lo) ≡ b) × (x ≡ y) → IsHexDigit (lo + (b - lo)) x → IsHexDigit b y
     spelled {x} lo y e h = subst (λ (c : ℕ). IsHexDigit c y) e.0 (subst (IsHexDigit (lo + (b - lo))) e.1 h)
+
+-- D and d are the digits of 13
+thirteen : (b : ℕ) → eqb b 0x44 || eqb b 0x64 ≡ true → IsHexDigit b 13
+thirteen b h =
+    by_test (eqb b 0x44) (λ t. rw (eqb-true b 0x44 t) (upper 3 (omega arith))) (λ t. rw (eqb-true b 0x64 (rw t at h)) (lower 3 (omega arith)))
+
+is_thirteen : {b x : ℕ} → IsHexDigit b x → x ≡ 13 → eqb b 0x44 || eqb b 0x64 ≡ true
+is_thirteen (decimal x l) e = absurd (omega arith)
+is_thirteen (upper x l) e = let z : x ≡ 3 = omega arith in rw z refl
+is_thirteen (lower x l) e = let z : x ≡ 3 = omega arith in rw z refl
 
 small : {a b c d x y p q : ℕ} → IsHexDigit a x → IsHexDigit b y → IsHexDigit c p → IsHexDigit d q → (x ≤ 15) × (y ≤ 15) × (p ≤ 15) × (q ≤ 15)
 small k l m n = ((digit_of k).1, (digit_of l).1, (digit_of m).1, (digit_of n).1)
@@ -186,18 +199,12 @@ module _ (good : ℕ → Bool) (f : ℕ → Tree) where
       → ((a b x y : ℕ) (r : List ℕ) → IsHexDigit a x → IsHexDigit b y → good (16 * x + y) ≡ true → Lang (f (16 * x + y)) r v → P (a ∷ b ∷ r)) → P w
   pair_ways P [] v h k = absurd h
   pair_ways P (a ∷ []) v h k = absurd h.1
-  pair_ways P (a ∷ b ∷ r) v h k = let g = guarded (hex b) _ h.1.0 in k a b (digit a) (digit b) r (is_digit_lem a h.0) (is_digit_lem b g.0) g.1 h.1.1
-    where
-      guarded : (p q : Bool) → cond p q false ≡ true → (p ≡ true) × (q ≡ true)
-      guarded true q t = (refl, t)
-      guarded false q t = clash false t refl
+  pair_ways P (a ∷ b ∷ r) v h k =
+      let g = (and-eq-true_iff (hex b) _).0 h.1.0 in k a b (hex_value a) (hex_value b) r (is_digit_lem a h.0) (is_digit_lem b g.0) g.1 h.1.1
 
   pair_lang : {a b x y : ℕ} (r : List ℕ) (v : ℕ) → IsHexDigit a x → IsHexDigit b y → good (16 * x + y) ≡ true → Lang (f (16 * x + y)) r v
       → Lang (pair_tree good f) (a ∷ b ∷ r) v
-  pair_lang {x = x} {y = y} r v p q g h =
-      let d = digit_of p in
-      let e = digit_of q in
-      rw (d.0, e.0, le-leb x 15 d.1, le-leb y 15 e.1, g) (refl, (refl, h))
+  pair_lang r v p q g h = rw ((digit_of p).0, (digit_of q).0, g) (refl, (refl, h))
 
 -- the escape of a low surrogate, behind that of a high one
 module _ (high : ℕ) where
@@ -208,22 +215,20 @@ module _ (high : ℕ) where
   low_ways P (a ∷ b ∷ []) v h k = absurd h.1.1
   low_ways P (a ∷ b ∷ c ∷ []) v h k = absurd h.1.1.1
   low_ways P (a ∷ b ∷ c ∷ d ∷ w) v h k =
-      let i = eqb-true (digit c) 13 h.1.1.0 in
-      let j = ranged 12 15 (digit d) h.1.1.1.0 in
-      let c-digit = is_digit_lem c (le-leb (digit c) 15 (omega arith)) in
-      let d-digit = is_digit_lem d (le-leb (digit d) 15 j.1) in
+      let i = (and-eq-true_iff (hex d) _).0 h.1.1.1.0 in
+      let j = ranged 12 15 (hex_value d) i.1 in
+      let c-digit = thirteen c h.1.1.0 in
+      let d-digit = is_digit_lem d i.0 in
       rw (eqb-true a 0x5C h.0, eqb-true b 0x75 h.1.0)
-      (pair_ways any (joined_tree high (digit d)) (λ w. P (0x5C ∷ 0x75 ∷ c ∷ d ∷ w)) w v h.1.1.1.1
+      (pair_ways any (joined_tree high (hex_value d)) (λ w. P (0x5C ∷ 0x75 ∷ c ∷ d ∷ w)) w v h.1.1.1.1
       (λ p q x y r m n _ h. let s = small c-digit d-digit m n in
       give_ways (λ r u. v ≡ u → P (0x5C ∷ 0x75 ∷ c ∷ d ∷ p ∷ q ∷ r)) _ r v h (λ e. k _ _ (hex-digits c-digit d-digit m n) (omega arith) (omega arith)) refl))
 
   low_lang : {x : List ℕ} {l : ℕ} (v : ℕ) → IsHex x l → In 0xDC00 0xDFFF l → v ≡ pair_value high l → Lang (partner_tree high) (0x5C ∷ 0x75 ∷ x) v
-  low_lang v (hex-digits {a} {b} k l m n) h e =
+  low_lang v (hex-digits {x = y} k l m n) h e =
       let s = small k l m n in
-      let x = (digit_of k).0 in
-      let y = (digit_of l).0 in
-      let last = pair_lang any (joined_tree high (digit b)) [] v m n refl (omega arith) in
-      (refl, (refl, (eq-eqb (digit a) 13 (omega arith), (in_range 12 15 (digit b) (omega arith), last))))
+      let last = pair_lang any (joined_tree high y) [] v m n refl (omega arith) in
+      (refl, (refl, (is_thirteen k (omega arith), rw ((digit_of l).0, in_range 12 15 y (omega arith)) (refl, last))))
 
 -- the value of four hex digits, and the same by pairs of digits, as it is read
 abbrev value : ℕ → ℕ → ℕ → ℕ → ℕ
@@ -284,7 +289,7 @@ escape_char : (w : List ℕ) (v : ℕ) → Lang escape_tree w v → IsChar (0x5C
 escape_char [] v h = absurd h
 escape_char (b ∷ w) v h =
     both (λ t. Lang t w v → IsChar (0x5C ∷ b ∷ w) v) (eqb b 0x75) (λ t g. rw (eqb-true b 0x75 t) (unicode_char w v g))
-    (λ t g. let n : not (eqb (escape_of b) 0) ≡ true = rw t at h.0 in give_ways (λ w. IsChar (0x5C ∷ b ∷ w)) _ w v g (short (is_short b (not-true _ n)))) h.1
+    (λ t g. let n : is_some (escape_of b) ≡ true = rw t at h.0 in give_ways (λ w. IsChar (0x5C ∷ b ∷ w)) _ w v g (short (is_short b n))) h.1
 
 -- ---- characters
 
@@ -303,6 +308,6 @@ lang_char (b ∷ w) v h =
 
 pub char_lang : {w : List ℕ} {v : ℕ} → IsChar w v → Lang char_tree w v
 char_lang (unescaped u r) = utf8_lang u r
-char_lang (short {b} {v} t) = let n = named_of t in rw (n.2, n.0, n.1) (refl, (refl, refl))
+char_lang (short {b} {v} t) = let n = named_of t in rw (n.1, n.0) (refl, (refl, refl))
 char_lang {v = v} (unicode (hex-digits k l m n) t) = (refl, (refl, single_lang k l m n v refl (λ i. t (omega arith))))
 char_lang {v = v} (surrogates (hex-digits k l m n) i g j) = (refl, (refl, high_lang k l m n v i g j refl))

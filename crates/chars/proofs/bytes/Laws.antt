@@ -2,16 +2,17 @@
 use mathlib.Core.Path.{◌≡◌, refl, subst}
 use mathlib.Core.List.{List}
 use mathlib.Core.Bool.{true, false, cond, ◌||◌}
-use Prim.Native.Nat.{ℕ, zero, suc, ◌-◌, ◌≤◌, ◌<◌}
+use Prim.Native.Nat.{ℕ, ◌-◌, ◌≤◌, ◌<◌}
 use native.Mathlib.Decide.{dec_lt}
 use native.Mathlib.Omega.{arith}
 use lib.ListN.{length, get_or-eq_default}
-use lib.Dec.{eqb, leb, lit≤}
-use borrow.Author.Tests.{leb-true, leb-false, le-leb, lt-leb}
+use lib.Dec.{eqb, leb}
+use borrow.Author.Tests.{leb-true, leb-false, eqb-true, le-leb, lt-leb}
 pub use Rattle.model.proofs.Basics.{both, and_ways}
 use Rattle.model.proofs.Basics.{by_test}
 use Rattle.chars.specs.Bytes.{byte_at, from_to, code_of, digit, escape_of, lowest, highest, six_bits}
 use Rattle.chars.specs.Refusals.{number}
+use Rattle.std.specs.Prelude.{Option, Some, IfSome}
 
 -- within a range, and outside of it
 pub inside : (lo hi b : ℕ) → lo ≤ b → b ≤ hi → from_to lo hi b ≡ true
@@ -34,25 +35,49 @@ pub code_bound : (b : ℕ) → (2 ≤ number (code_of b)) × (number (code_of b)
 unfolding code_of
 code_bound b = both (λ c. (2 ≤ number c) × (number c ≤ 5)) (from_to 0x80 0xC1 b || leb 0xF5 b) (λ _. omega arith) (λ _. omega arith)
 
-pub digit_byte : (b : ℕ) → digit b ≤ 15 → 0 < b
-unfolding digit
-digit_byte zero h = omega arith
-digit_byte (suc b) h = omega arith
+-- a hex digit
+abbrev Nibble : ℕ → Option ℕ → Type 0
+Nibble b o = IfSome o (λ v. (0 < b) × (v ≤ 15))
 
-pub digit_in : (s : List ℕ) (i : ℕ) → digit (byte_at s i) ≤ 15 → i < length s
-digit_in s i h = in_text s i (digit_byte (byte_at s i) h)
+digit_some : (b : ℕ) → Nibble b (digit b)
+unfolding digit
+digit_some b =
+    ranged 0x30 0x39 _ (λ l h. (omega arith, omega arith))
+    (ranged 0x41 0x46 _ (λ l h. (omega arith, omega arith)) (ranged 0x61 0x66 _ (λ l h. (omega arith, omega arith)) tt))
+  where
+    ranged : (lo hi : ℕ) {v : ℕ} (o : Option ℕ) → (lo ≤ b → b ≤ hi → Nibble b (Some v)) → Nibble b o → Nibble b (cond (from_to lo hi b) (Some v) o)
+    ranged lo hi o f g =
+        both (Nibble b) (from_to lo hi b)
+        (λ t. and_ways (leb lo b) (leb b hi) t (λ l h. f (leb-true lo b l) (leb-true b hi h)))
+        (λ _. g)
+
+pub digit_ways : (b : ℕ) {v : ℕ} → digit b ≡ Some v → (0 < b) × (v ≤ 15)
+digit_ways b e = rw e at (digit_some b)
+
+pub digit_in : (s : List ℕ) (i : ℕ) {v : ℕ} → digit (byte_at s i) ≡ Some v → i < length s
+digit_in s i e = in_text s i (digit_ways (byte_at s i) e).0
 
 -- a byte that continues a character
-pub six_ways : (b lo hi : ℕ) → six_bits b lo hi ≤ 63 → (lo ≤ b) × (b ≤ hi) × (six_bits b lo hi ≡ b - 0x80)
+abbrev Six : ℕ → ℕ → ℕ → Option ℕ → Type 0
+Six b lo hi o = IfSome o (λ v. (lo ≤ b) × (b ≤ hi) × (v ≡ b - 0x80))
+
+six_some : (b lo hi : ℕ) → Six b lo hi (six_bits b lo hi)
 unfolding six_bits
-six_ways b lo hi =
-    both (λ x. x ≤ 63 → (lo ≤ b) × (b ≤ hi) × (x ≡ b - 0x80)) (from_to lo hi b)
-    (λ t h. and_ways (leb lo b) (leb b hi) t (λ l m. (leb-true lo b l, leb-true b hi m, refl)))
-    (λ _ h. absurd (omega arith))
+six_some b lo hi =
+    both (Six b lo hi) (from_to lo hi b)
+    (λ t. and_ways (leb lo b) (leb b hi) t (λ l m. (leb-true lo b l, leb-true b hi m, refl)))
+    (λ _. tt)
+
+pub six_ways : (b lo hi : ℕ) {v : ℕ} → six_bits b lo hi ≡ Some v → (lo ≤ b) × (b ≤ hi) × (v ≡ b - 0x80)
+six_ways b lo hi e = rw e at (six_some b lo hi)
 
 pub lowest_least : (b : ℕ) → 0x80 ≤ lowest b
 unfolding lowest
 lowest_least b = both (λ x. 0x80 ≤ x) (eqb b 0xE0) (λ _. omega arith) (λ _. both (λ x. 0x80 ≤ x) (eqb b 0xF0) (λ _. omega arith) (λ _. omega arith))
+
+pub highest_most : (b : ℕ) → highest b ≤ 0xBF
+unfolding highest
+highest_most b = both (λ x. x ≤ 0xBF) (eqb b 0xED) (λ _. omega arith) (λ _. both (λ x. x ≤ 0xBF) (eqb b 0xF4) (λ _. omega arith) (λ _. omega arith))
 
 pub lowest_of : (b c : ℕ) → lowest b ≤ c → (b ≡ 0xE0 → 0xA0 ≤ c) × (b ≡ 0xF0 → 0x90 ≤ c)
 unfolding lowest
@@ -62,15 +87,19 @@ pub highest_of : (b c : ℕ) → c ≤ highest b → (b ≡ 0xED → c ≤ 0x9F)
 unfolding highest
 highest_of b c h = (λ e. subst (λ (x : ℕ). c ≤ highest x) e h, λ e. subst (λ (x : ℕ). c ≤ highest x) e h)
 
-abbrev Small : ℕ → Type 0
-Small x = x ≤ 0x7F
+abbrev Small : ℕ → Option ℕ → Type 0
+Small b o = IfSome o (λ v. (0 < b) × (v ≤ 0x7F))
 
-small : (b k x y : ℕ) → Small x → Small y → Small (cond (eqb b k) x y)
-small b k x y h g = both Small (eqb b k) (λ _. h) (λ _. g)
+small : (b k v : ℕ) (o : Option ℕ) → 0 < k → v ≤ 0x7F → Small b o → Small b (cond (eqb b k) (Some v) o)
+small b k v o l h g = both (Small b) (eqb b k) (λ t. let e : b ≡ k = eqb-true b k t in (omega arith, h)) (λ _. g)
 
--- a letter names a small character
-pub escape_small : (b : ℕ) → escape_of b ≤ 0x7F
+-- a letter that names a character, which is a small one
+escape_some : (b : ℕ) → Small b (escape_of b)
 unfolding escape_of
-escape_small b =
-    small b 0x22 _ _ (lit≤ tt) (small b 0x5C _ _ (lit≤ tt) (small b 0x2F _ _ (lit≤ tt) (small b 0x62 _ _ (lit≤ tt)
-    (small b 0x66 _ _ (lit≤ tt) (small b 0x6E _ _ (lit≤ tt) (small b 0x72 _ _ (lit≤ tt) (small b 0x74 _ _ (lit≤ tt) (lit≤ tt))))))))
+escape_some b =
+    small b 0x22 _ _ (omega arith) (omega arith) (small b 0x5C _ _ (omega arith) (omega arith) (small b 0x2F _ _ (omega arith) (omega arith)
+    (small b 0x62 _ _ (omega arith) (omega arith) (small b 0x66 _ _ (omega arith) (omega arith) (small b 0x6E _ _ (omega arith) (omega arith)
+    (small b 0x72 _ _ (omega arith) (omega arith) (small b 0x74 _ _ (omega arith) (omega arith) tt)))))))
+
+pub escape_ways : (b : ℕ) {v : ℕ} → escape_of b ≡ Some v → (0 < b) × (v ≤ 0x7F)
+escape_ways b e = rw e at (escape_some b)

@@ -1,22 +1,22 @@
 -- What stands at a place takes a part of the text: a character ends behind its place and within the text, and is a scalar value.
 use mathlib.Core.Path.{◌≡◌, refl, sym}
 use mathlib.Core.List.{List}
-use mathlib.Core.Bool.{true, false, cond}
-use Prim.Native.Nat.{ℕ, zero, suc, ◌+◌, ◌-◌, ◌*◌, ◌≤◌, ◌<◌}
+use mathlib.Core.Bool.{cond}
+use Prim.Native.Nat.{ℕ, ◌+◌, ◌-◌, ◌*◌, ◌≤◌, ◌<◌}
 use native.Mathlib.Nat.{eq-or-lt_of_le}
 use native.Mathlib.Decide.{dec_lt}
 use mathlib.Core.Logic.{⊎_elim}
 use native.Mathlib.Omega.{arith}
 use lib.ListN.{length, get_or-eq_default}
 use lib.Dec.{ltb, leb, eqb}
-use borrow.Author.Tests.{ltb-true, ltb-false, leb-true, eqb-true, eqb-false, le-ltb}
+use borrow.Author.Tests.{ltb-true, ltb-false, leb-true, eqb-true, le-ltb}
 use Rattle.chars.specs.declared.characters.Step.{Step}
 use Rattle.chars.specs.declared.characters.Step.TheVariants.{Char, Quote}
 use Rattle.chars.specs.Bytes.{byte_at, from_to, code_of, digit, escape_of, lowest, highest, six_bits}
-use Rattle.chars.specs.Characters.{refusal_at, stop_at, wrong, hex_pair, with_pair, pair_value, partner_at, rest_at, unicode_at, escape_at}
+use Rattle.chars.specs.Characters.{refusal_at, stop_at, wrong, need_some, hex_pair, with_pair, pair_value, partner_at, rest_at, unicode_at, escape_at}
 use Rattle.chars.specs.Characters.{two_at, three_at, four_at, char_from, char_at}
-use Rattle.chars.proofs.bytes.Laws.{both, and_ways, outside, in_text, code_bound, digit_in, six_ways, lowest_of, highest_of, escape_small}
-use Rattle.std.specs.Prelude.{Ok, Err}
+use Rattle.chars.proofs.bytes.Laws.{both, and_ways, outside, in_text, code_bound, digit_ways, digit_in, six_ways, lowest_of, highest_of, highest_most, escape_ways}
+use Rattle.std.specs.Prelude.{◌||◌, Ok, Err, Option, Some, None}
 use Rattle.chars.specs.Refusals.{number, refusal, Reading}
 use Rattle.chars.specs.declared.refusals.Code.{Code}
 use Rattle.chars.specs.declared.refusals.Code.TheVariants.{Ended, NotAllowed, NotUtf8, LoneSurrogate}
@@ -43,6 +43,12 @@ by_order {P} a b f g h = go (dec_lt a b)
     go (yes l) = f l
     go (no n) = let m : b ≤ a = omega arith in ⊎_elim (λ e. g (sym e)) h (eq-or-lt_of_le m)
 
+-- both ways of a value that may be missing
+pub by_some : {A B : Type 0} (P : Reading B → Type 0) (o : Option A) {other : Reading B} {k : A → Reading B}
+    → ((x : A) → o ≡ Some x → P (k x)) → (o ≡ None → P other) → P (need_some o other k)
+by_some P (Some x) f g = f x refl
+by_some P None f g = g refl
+
 module _ (s : List ℕ) where
   stop_ahead : (i j : ℕ) (c : Code) → (2 ≤ number c) × (number c ≤ 5) → Ahead s i (stop_at s j c)
   unfolding refusal_at
@@ -54,10 +60,9 @@ module _ (s : List ℕ) where
   pub hex_ahead : (i : ℕ) → HexAhead s i (hex_pair s i)
   unfolding hex_pair
   hex_ahead i =
-      both (HexAhead s i) (leb (digit (byte_at s i)) 15)
-      (λ t. both (HexAhead s i) (leb (digit (byte_at s (i + 1))) 15)
-      (λ u. let h : digit (byte_at s i) ≤ 15 = leb-true _ _ t in
-      let g : digit (byte_at s (i + 1)) ≤ 15 = leb-true _ _ u in (omega (arith, digit_in s (i + 1) g), omega arith))
+      by_some (HexAhead s i) (digit (byte_at s i))
+      (λ a t. by_some (HexAhead s i) (digit (byte_at s (i + 1)))
+      (λ b u. (omega (arith, digit_in s (i + 1) u), omega (arith, digit_ways _ t, digit_ways _ u)))
       (λ _. wrong_ahead i (i + 1)))
       (λ _. wrong_ahead i i)
 
@@ -70,12 +75,14 @@ module _ (s : List ℕ) where
   partner_ahead i j high l lo hi =
       both (Ahead s i) (eqb (byte_at s j) 0x5C)
       (λ _. both (Ahead s i) (eqb (byte_at s (j + 1)) 0x75)
-      (λ _. both (Ahead s i) (eqb (digit (byte_at s (j + 2))) 13)
-      (λ _. both (Ahead s i) (from_to 12 15 (digit (byte_at s (j + 3))))
-      (λ t. and_ways (leb 12 (digit (byte_at s (j + 3)))) (leb (digit (byte_at s (j + 3))) 15) t
-      (λ x y. let x₂ : 12 ≤ digit (byte_at s (j + 3)) = leb-true _ _ x in let y₂ : digit (byte_at s (j + 3)) ≤ 15 = leb-true _ _ y in
-      with_ahead i (j + 4) (λ l. Ok (Char (pair_value high (256 * (0xD0 + digit (byte_at s (j + 3))) + l)) (j + 6))) (hex_pair s (j + 4)) (hex_ahead (j + 4))
+      (λ _. both (Ahead s i) (eqb (byte_at s (j + 2)) 0x44 || eqb (byte_at s (j + 2)) 0x64)
+      (λ _. by_some (Ahead s i) (digit (byte_at s (j + 3)))
+      (λ d _. both (Ahead s i) (from_to 12 15 d)
+      (λ t. and_ways (leb 12 d) (leb d 15) t
+      (λ x y. let x₂ : 12 ≤ d = leb-true _ _ x in let y₂ : d ≤ 15 = leb-true _ _ y in
+      with_ahead i (j + 4) (λ l. Ok (Char (pair_value high (256 * (0xD0 + d) + l)) (j + 6))) (hex_pair s (j + 4)) (hex_ahead (j + 4))
       (λ v m w. (omega arith, omega arith, (omega arith, λ g. omega arith)))))
+      (λ _. stop_ahead i (j + 3) LoneSurrogate (omega arith)))
       (λ _. stop_ahead i (j + 3) LoneSurrogate (omega arith)))
       (λ _. stop_ahead i (j + 2) LoneSurrogate (omega arith)))
       (λ _. stop_ahead i (j + 1) LoneSurrogate (omega arith)))
@@ -97,46 +104,40 @@ module _ (s : List ℕ) where
       with_ahead i (x + 2) (λ h. cond (from_to 0xDC 0xDF h) (Err (refusal LoneSurrogate (x + 3))) (rest_at s x h)) (hex_pair s (x + 2)) (hex_ahead (x + 2))
       (λ v m w. both (Ahead s i) (from_to 0xDC 0xDF v) (λ _. omega arith) (λ t. rest_ahead i x v l w (outside 0xDC 0xDF v t)))
 
-  escape_byte : (b : ℕ) → eqb (escape_of b) 0 ≡ false → 0 < b
-  unfolding escape_of
-  escape_byte zero t = absurd (eqb-false 0 0 t refl)
-  escape_byte (suc b) t = omega arith
-
   escape_ahead : (i : ℕ) → Ahead s i (escape_at s i)
   unfolding escape_at
   escape_ahead i =
       both (Ahead s i) (eqb (byte_at s (i + 1)) 0x75) (λ _. unicode_ahead i i (omega arith))
-      (λ _. both (Ahead s i) (eqb (escape_of (byte_at s (i + 1))) 0) (λ _. wrong_ahead i (i + 1))
-      (λ t. let l = in_text s (i + 1) (escape_byte (byte_at s (i + 1)) t) in
-      let n = escape_small (byte_at s (i + 1)) in (omega arith, omega arith, (omega arith, λ g. omega arith))))
+      (λ _. by_some (Ahead s i) (escape_of (byte_at s (i + 1)))
+      (λ v t. let h = escape_ways (byte_at s (i + 1)) t in
+      let l = in_text s (i + 1) h.0 in (omega arith, omega arith, (omega arith, λ g. omega arith)))
+      (λ _. wrong_ahead i (i + 1)))
 
-  six_in : (i lo hi : ℕ) → 0x80 ≤ lo → leb (six_bits (byte_at s i) lo hi) 63 ≡ true → i < length s
-  six_in i lo hi l t = in_text s i (omega (arith, six_ways (byte_at s i) lo hi (leb-true _ _ t)))
+  -- the bits of a byte that continues a character, which lies within the text
+  six_in : (i : ℕ) {v : ℕ} → six_bits (byte_at s i) 0x80 0xBF ≡ Some v → (i < length s) × (v ≤ 63)
+  six_in i t = let h = six_ways (byte_at s i) 0x80 0xBF t in (in_text s i (omega arith), omega arith)
+
+  second_small : (b x : ℕ) {v : ℕ} → six_bits x (lowest b) (highest b) ≡ Some v → v ≤ 63
+  second_small b x t = omega (arith, six_ways x (lowest b) (highest b) t, highest_most b)
 
   two_ahead : (i b : ℕ) → b < 0xE0 → Ahead s i (two_at s i b)
   unfolding two_at
   two_ahead i b hi =
-      both (Ahead s i) (leb (six_bits (byte_at s (i + 1)) 0x80 0xBF) 63)
-      (λ t. let l = six_in (i + 1) 0x80 0xBF (omega arith) t in
-      let c : six_bits (byte_at s (i + 1)) 0x80 0xBF ≤ 63 = leb-true _ _ t in (omega arith, omega arith, (omega arith, λ g. omega arith)))
+      by_some (Ahead s i) (six_bits (byte_at s (i + 1)) 0x80 0xBF)
+      (λ c t. let x = six_in (i + 1) t in (omega arith, omega arith, (omega arith, λ g. omega arith)))
       (λ _. stop_ahead i (i + 1) NotUtf8 (omega arith))
 
   three_ahead : (i b : ℕ) → 0xE0 ≤ b → b < 0xF0 → Ahead s i (three_at s i b)
   unfolding three_at
   three_ahead i b lo hi =
-      both (Ahead s i) (leb (six_bits (byte_at s (i + 1)) (lowest b) (highest b)) 63)
-      (λ t. both (Ahead s i) (leb (six_bits (byte_at s (i + 2)) 0x80 0xBF) 63)
-      (λ u. let l = six_in (i + 2) 0x80 0xBF (omega arith) u in
-      let c : six_bits (byte_at s (i + 1)) (lowest b) (highest b) ≤ 63 = leb-true _ _ t in
-      let d : six_bits (byte_at s (i + 2)) 0x80 0xBF ≤ 63 = leb-true _ _ u in
-      let w = six_ways (byte_at s (i + 1)) (lowest b) (highest b) c in (
+      by_some (Ahead s i) (six_bits (byte_at s (i + 1)) (lowest b) (highest b))
+      (λ c t. by_some (Ahead s i) (six_bits (byte_at s (i + 2)) 0x80 0xBF)
+      (λ d u. let x = six_in (i + 2) u in
+      let m = second_small b _ t in
+      let w = six_ways (byte_at s (i + 1)) (lowest b) (highest b) t in (
         omega arith,
         omega arith,
-        (
-          omega arith,
-          λ g. three_high b (six_bits (byte_at s (i + 1)) (lowest b) (highest b)) (six_bits (byte_at s (i + 2)) 0x80 0xBF) lo c d
-              (λ e. omega (arith, (highest_of b (byte_at s (i + 1)) w.1).0 e)) g,
-        ),
+        (omega arith, λ g. three_high b c d lo m x.1 (λ e. omega (arith, (highest_of b (byte_at s (i + 1)) w.1).0 e)) g),
       ))
       (λ _. stop_ahead i (i + 2) NotUtf8 (omega arith)))
       (λ _. stop_ahead i (i + 1) NotUtf8 (omega arith))
@@ -148,15 +149,13 @@ module _ (s : List ℕ) where
   four_ahead : (i b : ℕ) → 0xF0 ≤ b → b < 0xF5 → Ahead s i (four_at s i b)
   unfolding four_at
   four_ahead i b lo hi =
-      both (Ahead s i) (leb (six_bits (byte_at s (i + 1)) (lowest b) (highest b)) 63)
-      (λ t. both (Ahead s i) (leb (six_bits (byte_at s (i + 2)) 0x80 0xBF) 63)
-      (λ u. both (Ahead s i) (leb (six_bits (byte_at s (i + 3)) 0x80 0xBF) 63)
-      (λ x. let l = six_in (i + 3) 0x80 0xBF (omega arith) x in
-      let c : six_bits (byte_at s (i + 1)) (lowest b) (highest b) ≤ 63 = leb-true _ _ t in
-      let d : six_bits (byte_at s (i + 2)) 0x80 0xBF ≤ 63 = leb-true _ _ u in
-      let e : six_bits (byte_at s (i + 3)) 0x80 0xBF ≤ 63 = leb-true _ _ x in
-      let w = six_ways (byte_at s (i + 1)) (lowest b) (highest b) c in
-      let r = four_range b _ _ _ lo hi c d e
+      by_some (Ahead s i) (six_bits (byte_at s (i + 1)) (lowest b) (highest b))
+      (λ c t. by_some (Ahead s i) (six_bits (byte_at s (i + 2)) 0x80 0xBF)
+      (λ d u. by_some (Ahead s i) (six_bits (byte_at s (i + 3)) 0x80 0xBF)
+      (λ e z. let x = six_in (i + 2) u in
+      let y = six_in (i + 3) z in
+      let w = six_ways (byte_at s (i + 1)) (lowest b) (highest b) t in
+      let r = four_range b c d e lo hi (second_small b _ t) x.1 y.1
       (λ q. omega (arith, (lowest_of b (byte_at s (i + 1)) w.0).1 q)) (λ q. omega (arith, (highest_of b (byte_at s (i + 1)) w.1).1 q)) in
       (omega arith, omega arith, (r.1, λ _. omega arith)))
       (λ _. stop_ahead i (i + 3) NotUtf8 (omega arith)))

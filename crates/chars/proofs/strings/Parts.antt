@@ -12,13 +12,13 @@ use Rattle.model.proofs.Basics.{never}
 use Rattle.chars.specs.declared.characters.Step.{Step}
 use Rattle.chars.specs.declared.characters.Step.TheVariants.{Char, Quote}
 use Rattle.chars.specs.Bytes.{byte_at, from_to, digit, escape_of, lowest, highest, six_bits}
-use Rattle.chars.specs.Characters.{hex_pair, with_pair, pair_value, partner_at, rest_at, unicode_at, escape_at}
+use Rattle.chars.specs.Characters.{need_some, hex_pair, with_pair, pair_value, partner_at, rest_at, unicode_at, escape_at}
 use Rattle.chars.specs.Characters.{two_at, three_at, four_at, char_from, char_at}
 use Rattle.chars.specs.Strings.{string_at, chars_at, characters, part, values_on}
 use Rattle.chars.proofs.bytes.Laws.{both, and_ways, outside}
-use Rattle.chars.proofs.characters.Laws.{Ahead, HexAhead, hex_ahead, partner_ahead, rest_ahead, unicode_ahead, char_ahead, char_end}
+use Rattle.chars.proofs.characters.Laws.{Ahead, HexAhead, by_some, hex_ahead, partner_ahead, rest_ahead, unicode_ahead, char_ahead, char_end}
 use Rattle.chars.proofs.strings.Laws.{char_next, chars_step, chars_char, string_char, string_quote, string_stop, string_bounds}
-use Rattle.std.specs.Prelude.{Ok, Err}
+use Rattle.std.specs.Prelude.{◌||◌, Ok, Err, Option, Some, None}
 use Rattle.chars.specs.Refusals.{refusal, Reading}
 use Rattle.chars.specs.declared.refusals.Refusal.{Refusal}
 use Rattle.chars.specs.declared.refusals.Code.TheVariants.{Ended, LoneSurrogate}
@@ -37,10 +37,12 @@ with_ways : (P : Reading Step → Type 0) (k : ℕ → Reading Step) (h : Readin
 with_ways P k (Ok v) f g = f v refl
 with_ways P k (Err r) f g = g r
 
-pair_of : (p q : Bool) (n v : ℕ) (r r₂ : Refusal) → cond p (cond q (Ok n) (Err r₂)) (Err r) ≡ Ok v → (p ≡ true) × (q ≡ true) × (n ≡ v)
-pair_of true true n v r r₂ e = (refl, refl, cc)
-pair_of true false n v r r₂ e = never (cc)
-pair_of false q n v r r₂ e = never (cc)
+-- two digits that were read
+pair_of : {P : Type 0} (p q : Option ℕ) (v : ℕ) (r r₂ : Refusal) → need_some p (Err r) (λ a. need_some q (Err r₂) (λ b. Ok (16 * a + b))) ≡ Ok v
+    → ((a b : ℕ) → p ≡ Some a → q ≡ Some b → 16 * a + b ≡ v → P) → P
+pair_of (Some a) (Some b) v r r₂ e f = f a b refl refl (cc)
+pair_of (Some a) None v r r₂ e f = never (cc)
+pair_of None q v r r₂ e f = never (cc)
 
 module _ (s t : List ℕ) (d c : ℕ) (agree : (y x : ℕ) → x ≡ y + d → x < c → byte_at t y ≡ byte_at s x) where
   via : (o st st₂ : Reading Step) (m : ℕ) → Moved d c o st → Ahead s m o → (m < c → st₂ ≡ st) → Moved d c o st₂
@@ -51,8 +53,8 @@ module _ (s t : List ℕ) (d c : ℕ) (agree : (y x : ℕ) → x ≡ y + d → x
   hex_moved : (y x v : ℕ) → x ≡ y + d → x + 2 ≤ c → hex_pair s x ≡ Ok v → hex_pair t y ≡ Ok v
   unfolding hex_pair
   hex_moved y x v q l e =
-      let i = pair_of (leb (digit (byte_at s x)) 15) (leb (digit (byte_at s (x + 1))) 15) (16 * digit (byte_at s x) + digit (byte_at s (x + 1))) v _ _ e in
-      rw (agree y x q (omega arith), agree (y + 1) (x + 1) (omega arith) (omega arith), i.0, i.1) (ap Ok i.2)
+      pair_of (digit (byte_at s x)) (digit (byte_at s (x + 1))) v _ _ e
+      (λ a b first second z. rw (agree y x q (omega arith), agree (y + 1) (x + 1) (omega arith) (omega arith), first, second) (ap Ok z))
 
   partner_moved : (y x high : ℕ) → x ≡ y + d → Moved d c (partner_at s x high) (partner_at t y high)
   unfolding partner_at
@@ -60,9 +62,10 @@ module _ (s t : List ℕ) (d c : ℕ) (agree : (y x : ℕ) → x ≡ y + d → x
       let P : Reading Step → Type 0 = λ o. Moved d c o (partner_at t y high) in
       both P (eqb (byte_at s x) 0x5C)
       (λ t₁. both P (eqb (byte_at s (x + 1)) 0x75)
-      (λ t₂. both P (eqb (digit (byte_at s (x + 2))) 13)
-      (λ t₃. both P (from_to 12 15 (digit (byte_at s (x + 3))))
-      (λ t₄. with_ways P (λ l. Ok (Char (pair_value high (256 * (0xD0 + digit (byte_at s (x + 3))) + l)) (x + 6))) (hex_pair s (x + 4))
+      (λ t₂. both P (eqb (byte_at s (x + 2)) 0x44 || eqb (byte_at s (x + 2)) 0x64)
+      (λ t₃. by_some P (digit (byte_at s (x + 3)))
+      (λ a t₄. both P (from_to 12 15 a)
+      (λ t₅. with_ways P (λ l. Ok (Char (pair_value high (256 * (0xD0 + a) + l)) (x + 6))) (hex_pair s (x + 4))
       (λ l e g. let n : y + 6 ≡ x + 6 - d = omega arith in
       rw (
         agree y x q (omega arith),
@@ -73,10 +76,12 @@ module _ (s t : List ℕ) (d c : ℕ) (agree : (y x : ℕ) → x ≡ y + d → x
         t₃,
         agree (y + 3) (x + 3) (omega arith) (omega arith),
         t₄,
+        t₅,
         hex_moved (y + 4) (x + 4) l (omega arith) (omega arith) e,
         n,
       ))
       (λ r. tt))
+      (λ _. tt))
       (λ _. tt))
       (λ _. tt))
       (λ _. tt))
@@ -115,23 +120,24 @@ module _ (s t : List ℕ) (d c : ℕ) (agree : (y x : ℕ) → x ≡ y + d → x
       both P (eqb (byte_at s (x + 1)) 0x75)
       (λ u. via (unicode_at s x) (unicode_at t y) (escape_at t y) (x + 5) (unicode_moved y x q) (unicode_ahead s (x + 5) x (omega arith))
       (λ g. rw (agree (y + 1) (x + 1) (omega arith) (omega arith), u)))
-      (λ u. both P (eqb (escape_of (byte_at s (x + 1))) 0) (λ _. tt)
-      (λ w g. let n : y + 2 ≡ x + 2 - d = omega arith in rw (agree (y + 1) (x + 1) (omega arith) (omega arith), u, w, n)))
+      (λ u. by_some P (escape_of (byte_at s (x + 1)))
+      (λ v w g. let n : y + 2 ≡ x + 2 - d = omega arith in rw (agree (y + 1) (x + 1) (omega arith) (omega arith), u, w, n))
+      (λ _. tt))
 
   two_moved : (y x b : ℕ) → x ≡ y + d → Moved d c (two_at s x b) (two_at t y b)
   unfolding two_at
   two_moved y x b q =
-      both (λ o. Moved d c o (two_at t y b)) (leb (six_bits (byte_at s (x + 1)) 0x80 0xBF) 63)
-      (λ u g. let n : y + 2 ≡ x + 2 - d = omega arith in rw (agree (y + 1) (x + 1) (omega arith) (omega arith), u, n))
+      by_some (λ o. Moved d c o (two_at t y b)) (six_bits (byte_at s (x + 1)) 0x80 0xBF)
+      (λ v u g. let n : y + 2 ≡ x + 2 - d = omega arith in rw (agree (y + 1) (x + 1) (omega arith) (omega arith), u, n))
       (λ _. tt)
 
   three_moved : (y x b : ℕ) → x ≡ y + d → Moved d c (three_at s x b) (three_at t y b)
   unfolding three_at
   three_moved y x b q =
       let P : Reading Step → Type 0 = λ o. Moved d c o (three_at t y b) in
-      both P (leb (six_bits (byte_at s (x + 1)) (lowest b) (highest b)) 63)
-      (λ u. both P (leb (six_bits (byte_at s (x + 2)) 0x80 0xBF) 63)
-      (λ w g. let n : y + 3 ≡ x + 3 - d = omega arith in
+      by_some P (six_bits (byte_at s (x + 1)) (lowest b) (highest b))
+      (λ _ u. by_some P (six_bits (byte_at s (x + 2)) 0x80 0xBF)
+      (λ _ w g. let n : y + 3 ≡ x + 3 - d = omega arith in
       rw (agree (y + 1) (x + 1) (omega arith) (omega arith), u, agree (y + 2) (x + 2) (omega arith) (omega arith), w, n))
       (λ _. tt))
       (λ _. tt)
@@ -140,10 +146,10 @@ module _ (s t : List ℕ) (d c : ℕ) (agree : (y x : ℕ) → x ≡ y + d → x
   unfolding four_at
   four_moved y x b q =
       let P : Reading Step → Type 0 = λ o. Moved d c o (four_at t y b) in
-      both P (leb (six_bits (byte_at s (x + 1)) (lowest b) (highest b)) 63)
-      (λ u. both P (leb (six_bits (byte_at s (x + 2)) 0x80 0xBF) 63)
-      (λ w. both P (leb (six_bits (byte_at s (x + 3)) 0x80 0xBF) 63)
-      (λ z g. let n : y + 4 ≡ x + 4 - d = omega arith in
+      by_some P (six_bits (byte_at s (x + 1)) (lowest b) (highest b))
+      (λ _ u. by_some P (six_bits (byte_at s (x + 2)) 0x80 0xBF)
+      (λ _ w. by_some P (six_bits (byte_at s (x + 3)) 0x80 0xBF)
+      (λ _ z g. let n : y + 4 ≡ x + 4 - d = omega arith in
       let f = agree (y + 3) (x + 3) (omega arith) (omega arith) in
       rw (agree (y + 1) (x + 1) (omega arith) (omega arith), u, agree (y + 2) (x + 2) (omega arith) (omega arith), w, f, z, n))
       (λ _. tt))

@@ -1,32 +1,21 @@
--- A character of several bytes, by its first byte and the six bits of each other; behind such characters the string goes on.
-use mathlib.Core.Path.{◌≡◌, refl, sym}
+-- A character of several bytes, by its first byte and the six bits of each other.
+use mathlib.Core.Path.{◌≡◌, ◌∙◌}
 use mathlib.Core.List.{List}
-use mathlib.Core.Logic.{inl, inr}
 use Prim.Native.Nat.{ℕ, ◌+◌, ◌≤◌, ◌<◌}
-use lib.ListN.{length}
-use Rattle.chars.specs.Bytes.{byte_at, six_bits}
-use Rattle.chars.specs.Strings.{string_at}
+use native.Mathlib.Omega.{arith}
+use Rattle.std.specs.Prelude.{Some}
+use Rattle.chars.specs.Bytes.{byte_at, lowest, highest, six_bits}
 use Rattle.chars.specs.Wide.{WideStep}
-use Rattle.chars.proofs.characters.Utf8.{Passed, by_byte, from_two, from_three, from_four, two_read, three_read, four_read}
-use Rattle.chars.proofs.strings.Laws.{char_next, string_char}
+use Rattle.chars.proofs.characters.Utf8.{by_first, from_two, from_three, from_four, two_read, three_read, four_read}
 
--- as they are read: b is the first byte, and c, d and e are the bits of the others
-module _ (s : List ℕ) (i : ℕ) {b : ℕ} (first : b ≡ byte_at s i) where
-  pub two_wide : {c : ℕ} → 0xC2 ≤ b → b < 0xE0 → c ≡ six_bits (byte_at s (i + 1)) 0x80 0xBF → c ≤ 63 → WideStep s i (i + 2)
-  two_wide lo hi p x = inr (_, sym (by_byte s i first (from_two s i lo hi) (two_read s i b p refl x)))
+-- b is the first byte, and c, d and e are the bits of the others
+module _ (s : List ℕ) (i : ℕ) {b : ℕ} (first : b ≡ byte_at s i) {c : ℕ} where
+  pub two_wide : 0xC2 ≤ b → b < 0xE0 → six_bits (byte_at s (i + 1)) 0x80 0xBF ≡ Some c → WideStep s i (i + 2)
+  two_wide lo hi e = (_, by_first s i first (from_two s i lo hi ∙ two_read s i b e))
 
-  pub three_wide : {c d : ℕ} → 0xE0 ≤ b → b < 0xF0 → Passed s i b c d → WideStep s i (i + 3)
-  three_wide lo hi p = inr (_, sym (by_byte s i first (from_three s i lo hi) (three_read p refl)))
+  module _ (second : six_bits (byte_at s (i + 1)) (lowest b) (highest b) ≡ Some c) {d : ℕ} (third : six_bits (byte_at s (i + 2)) 0x80 0xBF ≡ Some d) where
+    pub three_wide : 0xE0 ≤ b → b < 0xF0 → WideStep s i (i + 3)
+    three_wide lo hi = (_, by_first s i first (from_three s i (omega arith) lo hi ∙ three_read s i b second third))
 
-  pub four_wide : {c d e : ℕ} → 0xF0 ≤ b → b < 0xF5 → Passed s i b c d → e ≡ six_bits (byte_at s (i + 3)) 0x80 0xBF → e ≤ 63 → WideStep s i (i + 4)
-  four_wide lo hi p q z = inr (_, sym (by_byte s i first (from_four s i lo hi) (four_read p q refl z)))
-
-module _ (s : List ℕ) (i r : ℕ) where
-  -- the string goes on behind it
-  pub wide_string : WideStep s i r → string_at s r ≡ string_at s i
-  wide_string (inl e) = rw e
-  wide_string (inr (v, e)) = sym (string_char s i v r e)
-
-  pub wide_ahead : WideStep s i r → (r ≡ i → ⊥) → (i < r) × (r ≤ length s)
-  wide_ahead (inl e) n = absurd (n e)
-  wide_ahead (inr (v, e)) n = let h = char_next s i v r e in (h.0, h.1)
+    pub four_wide : {e : ℕ} → 0xF0 ≤ b → b < 0xF5 → six_bits (byte_at s (i + 3)) 0x80 0xBF ≡ Some e → WideStep s i (i + 4)
+    four_wide lo hi e = (_, by_first s i first (from_four s i (omega arith) lo hi ∙ four_read s i b second third e))

@@ -1,7 +1,0 @@
--- `chars::bytes::peek` meets its contract: a byte of the text, or none behind its end.
-use mathlib.Core.Path.{sym}
-use lib.ListN.{get_or-eq_default}
-use Rattle.chars.proofs.bytes.peek.Goals as goal
-
-pub returns-else-at-text : goal.returns-else-at-text
-returns-else-at-text c = sym (get_or-eq_default c.args.text.now 0 c.if-at-text.false)
