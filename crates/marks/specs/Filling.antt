@@ -1,7 +1,13 @@
 -- For private contracts: the rows that marks stand for, each with the row that it stands in, as the second pass finds it.
 use Rattle.std.specs.Prelude.{ℕ, zero, suc, ◌+◌, ◌≤◌, ◌<◌, ◌≡◌, cond, List, [], ◌∷◌, ◌++◌, length, get_or, take, ltb, eqb}
-use Rattle.syntax.specs.Rows.{lay_out}
+use Rattle.syntax.specs.Rows.{entry, lay_out}
+use Rattle.syntax.specs.Rows as rows
+use Rattle.marks.specs.declared.filling.Entry.{Entry}
 use Rattle.marks.specs.Marks.{mark_entry, mark_entries}
+
+-- what the code has of a row, as an entry
+abbrev pub entry_of : Entry → rows.Entry
+entry_of x = entry x.kind x.first x.end x.children x.rows
 
 -- of the rows below k, the last whose subtree holds row i, by how many rows each subtree has; 0 where there is none
 abbrev pub last_open : (ℕ → ℕ) → ℕ → ℕ → ℕ

@@ -3,32 +3,76 @@ ghost use Rattle.std.specs.Prelude.{◌≡◌, ◌+◌, ◌*◌, ◌≤◌, ◌<
 ghost use Rattle.std.proofs.lemmas.List.Edits.{sets};
 ghost use Rattle.syntax.specs.Rows.{row_words, entry, row as row_of};
 ghost use Rattle.marks.specs.Marks.{mark_entry};
-ghost use Rattle.marks.specs.Filling.{mark_words, FillReady, onward};
+ghost use Rattle.marks.specs.Filling.{entry_of, mark_words, FillReady, onward};
 
 use crate::packing::{first_in, fourth_in, second_in, third_in};
 use syntax::{ROW_WORDS, word};
 
-// Writes a row.
-fn put(
-    table: &mut [u32],
-    row: usize,
+// The kinds of rows that hold others, an object's behind an array's, and of names (01, "Rows").
+const ARRAY: u32 = 7;
+
+const NAME: u32 = 9;
+
+// What a row says but for the row that it stands in.
+#[derive(Clone, Copy, Debug, PartialEq, Eq)]
+struct Entry {
     kind: u32,
-    first: usize,
-    end: usize,
-    children: usize,
-    rows: usize,
-    parent: usize,
-)
+    first: u32,
+    end: u32,
+    children: u32,
+    rows: u32,
+}
+
+impl Entry {
+    // A name, or a value that holds no other.
+    fn leaf(kind: u32, first: u32, end: u32) -> Self
+        ensures { entry_of result ≡ entry kind first end 0 1 }
+    {
+        Self {
+            kind,
+            first,
+            end,
+            children: 0,
+            rows: 1,
+        }
+    }
+
+    // The entry that a mark stands for.
+    fn of(mark: u64) -> Self
+        ensures { entry_of result ≡ mark_entry mark }
+    {
+        let first = first_in(mark) as u32;
+        let last = second_in(mark) as u32;
+        let rows = third_in(mark) as u32;
+        let kind = fourth_in(mark) as u32;
+        if first > last {
+            return Self::leaf(NAME, last, first + 1);
+        }
+        if rows == 0 {
+            return Self::leaf(kind, first, last + 1);
+        }
+        Self {
+            kind: ARRAY + kind % 2,
+            first,
+            end: last + 1,
+            children: kind / 2,
+            rows,
+        }
+    }
+}
+
+// Writes a row.
+fn put(table: &mut [u32], row: usize, entry: Entry, parent: usize)
     requires row_words_in_bounds { row_words * row + row_words ≤ length table.old }
-    requires first_bound { (first < 2 ^ 32) × (end < 2 ^ 32) × (children < 2 ^ 32) × (rows < 2 ^ 32) × (parent < 2 ^ 32) }
-    ensures { table.new ≡ sets table.old (row_words * row) (row_of (entry kind first end children rows) parent) }
+    requires parent_bound { parent < 2 ^ 32 }
+    ensures { table.new ≡ sets table.old (row_words * row) (row_of (entry_of entry) parent) }
 {
     let at = ROW_WORDS * row;
-    table[at] = kind;
-    table[at + 1] = first as u32;
-    table[at + 2] = end as u32;
-    table[at + 3] = children as u32;
-    table[at + 4] = rows as u32;
+    table[at] = entry.kind;
+    table[at + 1] = entry.first;
+    table[at + 2] = entry.end;
+    table[at + 3] = entry.children;
+    table[at + 4] = entry.rows;
     table[at + 5] = parent as u32;
 }
 
@@ -38,29 +82,9 @@ fn put_mark(table: &mut [u32], row: usize, mark: u64, parent: usize) -> usize
     ensures value { result ≡ (mark_entry mark).rows }
     ensures table_after { table.new ≡ sets table.old (row_words * row) (row_of (mark_entry mark) parent) }
 {
-    let first = first_in(mark);
-    let last = second_in(mark);
-    let rows = third_in(mark);
-    let kind = fourth_in(mark);
-    if first > last {
-        put(table, row, 9, last, first + 1, 0, 1, parent);
-        return 1;
-    }
-    if rows == 0 {
-        put(table, row, kind as u32, first, last + 1, 0, 1, parent);
-        return 1;
-    }
-    put(
-        table,
-        row,
-        7 + (kind % 2) as u32,
-        first,
-        last + 1,
-        kind / 2,
-        rows,
-        parent,
-    );
-    rows
+    let entry = Entry::of(mark);
+    put(table, row, entry, parent);
+    entry.rows as usize
 }
 
 // The mark of an array or object whose row is written makes way for the row of the nearest one around it that ends later: there one goes on behind
@@ -69,10 +93,11 @@ fn turn(marks: &mut [u64], row: usize, last: usize, parent: usize, end: usize)
     requires { (row < length marks.old) × (parent < length marks.old) }
     ensures { marks.new ≡ set marks.old row (onward marks.old last parent end) }
 {
-    let mut around = parent as u64;
-    if last == end {
-        around = marks[parent];
-    }
+    let around = if last == end {
+        marks[parent]
+    } else {
+        parent as u64
+    };
     marks[row] = around;
 }
 
@@ -83,8 +108,7 @@ pub fn fill(marks: &mut [u64], table: &mut [u32], rows: usize)
 {
     let mut parent = 0;
     let mut end = rows;
-    let mut row = 0;
-    while row < rows {
+    for row in 0..rows {
         if row == end {
             parent = marks[parent] as usize;
             end = parent + word(table, parent, 4) as usize;
@@ -95,6 +119,5 @@ pub fn fill(marks: &mut [u64], table: &mut [u32], rows: usize)
             parent = row;
             end = row + inner;
         }
-        row += 1;
     }
 }

@@ -6,29 +6,29 @@ pub fn pack(a: usize, b: usize, c: usize, d: usize) -> u64
     requires { (a < 65536) × (b < 65536) × (c < 65536) × (d < 65536) }
     ensures { result ≡ packed a b c d }
 {
-    ((a as u64 * 65536 + b as u64) * 65536 + c as u64) * 65536 + d as u64
+    ((a as u64) << 48) + ((b as u64) << 32) + ((c as u64) << 16) + d as u64
 }
 
 pub fn first_in(x: u64) -> usize
     ensures { result ≡ first_in x }
 {
-    (x / 281474976710656) as usize
+    (x >> 48) as usize
 }
 
 pub fn second_in(x: u64) -> usize
     ensures { result ≡ second_in x }
 {
-    (x / 4294967296 % 65536) as usize
+    (x >> 32) as usize & 0xFFFF
 }
 
 pub fn third_in(x: u64) -> usize
     ensures { result ≡ third_in x }
 {
-    (x / 65536 % 65536) as usize
+    (x >> 16) as usize & 0xFFFF
 }
 
 pub fn fourth_in(x: u64) -> usize
     ensures { result ≡ fourth_in x }
 {
-    (x % 65536) as usize
+    x as usize & 0xFFFF
 }

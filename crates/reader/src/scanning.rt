@@ -141,15 +141,11 @@ fn item(
     ensures { Told text.now (value_at depth text.now at) result row marks.old heads.new marks.new }
 {
     let first = first_at(text, at);
-    match first {
-        First::Number => {
-            let end = integer_end(text, at);
-            if end > at {
-                marks[row] = leaf_mark(u32::from(Kind::Whole), at, end);
-                return Ok(Scanned { end, rows: 1 });
-            }
+    if let First::Number = first {
+        if let Some(end) = integer_end(text, at) {
+            marks[row] = leaf_mark(u32::from(Kind::Whole), at, end);
+            return Ok(Scanned { end, rows: 1 });
         }
-        _ => {}
     }
     value(first, text, heads, marks, row, at, depth)
 }

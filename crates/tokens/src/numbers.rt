@@ -10,10 +10,7 @@ use chars::{Reading, peek, run_end};
 fn is_digit(b: u8) -> bool
     ensures { result ≡ is_digit b }
 {
-    match b {
-        b'0'..=b'9' => true,
-        _ => false,
-    }
+    b.is_ascii_digit()
 }
 
 // The place behind the digits at a place.
@@ -38,8 +35,7 @@ fn sign(text: &[u8], at: usize) -> usize
     ensures { result ≡ sign_end text.now at }
 {
     match peek(text, at) {
-        b'+' => at + 1,
-        b'-' => at + 1,
+        b'+' | b'-' => at + 1,
         _ => at,
     }
 }
@@ -65,8 +61,7 @@ fn exponent(text: &[u8], at: usize, kind: Kind) -> Reading<Token>
     ensures { result ≡ token_of (exponent_at text.now at kind) }
 {
     match peek(text, at) {
-        b'E' => power(text, at),
-        b'e' => power(text, at),
+        b'E' | b'e' => power(text, at),
         _ => Ok(Token { kind, end: at }),
     }
 }

@@ -54,16 +54,15 @@ fn literal(text: &[u8], at: usize, word: &[u8], kind: Kind) -> Reading<Token>
     requires { at < length text.now }
     ensures { result ≡ token_of (word_at kind word.now text.now at) }
 {
-    let mut i = at;
-    let mut k: usize = 0;
-    while k < word.len() {
-        if peek(text, i) != word[k] {
-            return Err(unexpected(text, i));
+    for (k, b) in word.iter().enumerate() {
+        if peek(text, at + k) != *b {
+            return Err(unexpected(text, at + k));
         }
-        i += 1;
-        k += 1;
     }
-    Ok(Token { kind, end: i })
+    Ok(Token {
+        kind,
+        end: at + word.len(),
+    })
 }
 
 // The string whose opening quote stands at a place.
@@ -95,30 +94,28 @@ pub fn scalar(first: First, text: &[u8], at: usize) -> Reading<Token>
     }
 }
 
-// The place behind the digits that begin at `from`, with no 0; `at` where none do, or where the number goes on behind them.
-fn digits_from(text: &[u8], at: usize, from: usize) -> usize
-    ensures { result ≡ digits_from text.now at from }
+// The place behind the digits that begin at `from` with no 0, where the number does not go on behind them.
+fn digits_from(text: &[u8], from: usize) -> Option<usize>
+    ensures { result ≡ digits_from text.now from }
 {
     match peek(text, from) {
         b'1'..=b'9' => {
             let end = digits(text, from + 1);
             match peek(text, end) {
-                b'.' => at,
-                b'E' => at,
-                b'e' => at,
-                _ => end,
+                b'.' | b'E' | b'e' => None,
+                _ => Some(end),
             }
         }
-        _ => at,
+        _ => None,
     }
 }
 
-// The place behind the number at a place that has digits alone, perhaps behind a minus, and begins with no 0; the place itself where none stands there.
-pub fn integer_end(text: &[u8], at: usize) -> usize
+// The place behind the number at a place, where it has digits alone, perhaps behind a minus, and begins with no 0.
+pub fn integer_end(text: &[u8], at: usize) -> Option<usize>
     ensures { result ≡ integer_end text.now at }
 {
     if peek(text, at) == b'-' {
-        return digits_from(text, at, at + 1);
+        return digits_from(text, at + 1);
     }
-    digits_from(text, at, at)
+    digits_from(text, at)
 }

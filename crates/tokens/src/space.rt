@@ -7,13 +7,7 @@ use chars::run_end;
 fn is_space(b: u8) -> bool
     ensures { result ≡ is_space b }
 {
-    match b {
-        b' ' => true,
-        b'\t' => true,
-        b'\n' => true,
-        b'\r' => true,
-        _ => false,
-    }
+    matches!(b, b' ' | b'\t' | b'\n' | b'\r')
 }
 
 // The first place from `at` on that holds no space.

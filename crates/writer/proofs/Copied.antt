@@ -20,9 +20,9 @@ use Rattle.grammar.specs.Written.{IsUnescaped, IsHexDigit, decimal, upper, lower
 use Rattle.grammar.specs.Written.{quotation_mark, reverse_solidus, solidus, backspace, form_feed, line_feed, carriage_return, tab}
 use Rattle.grammar.proofs.Facts.{three_bits, four_bits, utf8_only, At, Spelled, Lang, Stepped, walk_sound, char_tree, char_quote, char_walk}
 use Rattle.grammar.proofs.Facts.{char_good, lang_char}
-use Rattle.writer.specs.Spell.{is_escaped, letter_of, spell_char}
+use Rattle.writer.specs.Spell.{is_escaped, letter_of, form, spell_char}
 use Rattle.writer.specs.Runs.{is_ordinary}
-use Rattle.std.specs.Prelude.{Ok}
+use Rattle.std.specs.Prelude.{Ok, Option, Some, None}
 
 -- ---- characters that are not escaped
 
@@ -63,11 +63,14 @@ utf8_most v =
     let P : List ℕ → Type 0 = λ w. length w ≤ 4 in
     both P (ltb v 0x80) (λ _. omega arith) (λ _. both P (ltb v 0x800) (λ _. omega arith) (λ _. both P (ltb v 0x10000) (λ _. omega arith) (λ _. omega arith)))
 
+form_most : (v : ℕ) (o : Option ℕ) → length (form v o) ≤ 6
+form_most v (Some l) = omega arith
+form_most v None = omega arith
+
 spell_most : (v : ℕ) → length (spell_char v) ≤ 6
 unfolding spell_char
 spell_most v =
-    let P : List ℕ → Type 0 = λ w. length w ≤ 6 in
-    both P (is_escaped v) (λ _. both P (eqb (letter_of v) 0) (λ _. omega arith) (λ _. omega arith)) (λ _. omega (arith, utf8_most v))
+    let P : List ℕ → Type 0 = λ w. length w ≤ 6 in both P (is_escaped v) (λ _. form_most v (letter_of v)) (λ _. omega (arith, utf8_most v))
 
 -- an escape of two bytes is not written longer
 short_most : {b v : ℕ} → IsShort b v → (length (spell_char v) ≤ 2) × (v ≤ 0x5C)

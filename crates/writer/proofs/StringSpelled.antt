@@ -1,28 +1,31 @@
 -- The spelling of a string is one of the written grammar, and spells that string.
 use Prim.Native.Nat.{ℕ, ◌+◌, ◌-◌, ◌*◌, ◌/◌, ◌%◌, ◌≤◌, ◌<◌}
 use mathlib.Core.Path.{◌≡◌, refl, subst}
-use mathlib.Core.Logic.{◌⊎◌, inl, inr, ⊎_elim}
+use mathlib.Core.Logic.{inl, inr, ⊎_elim}
 use mathlib.Core.Bool.{true, false, ◌||◌}
 use mathlib.Core.List.{List, [], ◌∷◌}
 use native.Mathlib.Omega.{arith}
 use lib.Dec.{ltb, eqb}
 use borrow.Author.Tests.{ltb-true, ltb-false, eqb-true, eqb-false}
+use Rattle.std.specs.Prelude.{Option, Some, None}
+use Rattle.std.proofs.lemmas.Bool.Decides.{nat_tests}
 use Rattle.model.specs.Text.{is_scalar, is_text}
-use Rattle.model.proofs.Basics.{both, by_test, and_ways, or-true, or-false}
+use Rattle.model.proofs.Basics.{both, by_test, and_ways, or-false}
 use Rattle.grammar.specs.Written.{IsUnescaped, IsShort, quotation_mark, reverse_solidus, backspace, form_feed, line_feed, carriage_return, tab}
 use Rattle.grammar.specs.Written.{IsHexDigit, decimal, lower, hex, IsChar, unescaped, short, unicode, IsChars, no_char, char, IsString}
 use Rattle.grammar.proofs.Facts.{scalar_range, utf8_spelled}
-use Rattle.writer.specs.Spell.{is_escaped, letter_of, hex_digit, long_form, escape, spell_char, spell_chars, spell_string}
+use Rattle.writer.specs.Spell.{is_escaped, letter_of, hex_digit, long_form, form, escape, spell_char, spell_chars, spell_string}
 
 -- ---- escapes
 
 module _ (c : ℕ) where
-  -- a byte behind a backslash that stands for c, or 0 where there is none
-  abbrev Letter : ℕ → Type 0
-  Letter b = IsShort b c ⊎ (b ≡ 0)
+  -- a byte behind a backslash, where there is one, stands for c
+  abbrev Letter : Option ℕ → Type 0
+  Letter (Some b) = IsShort b c
+  Letter None = Unit
 
-  is : {b k : ℕ} → IsShort b k → eqb c k ≡ true → Letter b
-  is {k = k} h t = rw (eqb-true c k t) (inl h)
+  is : {b k : ℕ} → IsShort b k → eqb c k ≡ true → IsShort b c
+  is {k = k} h t = rw (eqb-true c k t) h
 
   letter_names : Letter (letter_of c)
   unfolding letter_of
@@ -33,15 +36,12 @@ module _ (c : ℕ) where
       (λ _. both Letter (eqb c 0x0C) (is form_feed)
       (λ _. both Letter (eqb c 0x0A) (is line_feed)
       (λ _. both Letter (eqb c 0x0D) (is carriage_return)
-      (λ _. both Letter (eqb c 0x09) (is tab) (λ _. inr refl)))))))
+      (λ _. both Letter (eqb c 0x09) (is tab) (λ _. tt)))))))
 
 -- one that is escaped without a letter is small
-letterless : (c : ℕ) → is_escaped c ≡ true → letter_of c ≡ 0 → c < 0x20
+letterless : (c : ℕ) → is_escaped c ≡ true → letter_of c ≡ None → c < 0x20
 unfolding letter_of
-letterless c t z =
-    ⊎_elim
-    (λ u. ⊎_elim (λ l. ltb-true c 0x20 l) (λ e. let z : ◌≡◌ {A = ℕ} 0x22 0 = rw (eqb-true c 0x22 e) at z in omega arith) (or-true (ltb c 0x20) (eqb c 0x22) u))
-    (λ e. let z : ◌≡◌ {A = ℕ} 0x5C 0 = rw (eqb-true c 0x5C e) at z in omega arith) (or-true (ltb c 0x20 || eqb c 0x22) (eqb c 0x5C) t)
+letterless c t e = grind (arith, nat_tests)
 
 digit_spelled : (n : ℕ) → n < 16 → IsHexDigit (hex_digit n) n
 unfolding hex_digit
@@ -59,9 +59,11 @@ long_spelled c l =
     subst (IsChar (long_form c)) v (unicode (hex zero zero (digit_spelled (c / 16) (omega arith)) (digit_spelled (c % 16) (omega arith))) (λ h. omega arith))
 
 escape_spelled : (c : ℕ) → is_escaped c ≡ true → IsChar (escape c) c
-escape_spelled c t =
-    both (λ w. IsChar w c) (eqb (letter_of c) 0) (λ z. long_spelled c (letterless c t (eqb-true _ 0 z)))
-    (λ n. ⊎_elim (λ h. short h) (λ z. absurd (eqb-false _ 0 n z)) (letter_names c))
+escape_spelled c t = go (letter_of c) refl (letter_names c)
+  where
+    go : (o : Option ℕ) → letter_of c ≡ o → Letter c o → IsChar (form c o) c
+    go (Some b) e h = short h
+    go None e h = long_spelled c (letterless c t e)
 
 -- ---- characters
 

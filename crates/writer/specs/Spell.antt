@@ -1,5 +1,5 @@
 -- The one spelling of a JSON value (02, L6).
-use Rattle.std.specs.Prelude.{ℕ, ◌+◌, ◌/◌, ◌%◌, List, [], ◌∷◌, ◌++◌, Bool, true, false, cond, ◌||◌, ltb, eqb}
+use Rattle.std.specs.Prelude.{ℕ, ◌+◌, ◌/◌, ◌%◌, List, [], ◌∷◌, ◌++◌, Bool, true, false, cond, ◌||◌, ltb, eqb, Option, Some, None}
 use Rattle.model.specs.Text.{text}
 use Rattle.model.specs.Value.{Value, null, boolean, number, string, array, object, Values, vnil, vcons, Members, mnil, mcons}
 use Rattle.grammar.specs.Utf8.{utf8}
@@ -10,16 +10,16 @@ use Rattle.grammar.specs.Utf8.{utf8}
 abbrev pub is_escaped : ℕ → Bool
 is_escaped c = ltb c 0x20 || eqb c 0x22 || eqb c 0x5C
 
--- "by the short forms where there is one": the byte behind the backslash; 0 where there is none
-unfoldable pub letter_of : ℕ → ℕ
+-- "by the short forms where there is one": the byte behind the backslash
+unfoldable pub letter_of : ℕ → Option ℕ
 letter_of c =
-    cond (eqb c 0x22) 0x22
-    (cond (eqb c 0x5C) 0x5C
-    (cond (eqb c 0x08) 0x62
-    (cond (eqb c 0x0C) 0x66
-    (cond (eqb c 0x0A) 0x6E
-    (cond (eqb c 0x0D) 0x72
-    (cond (eqb c 0x09) 0x74 0))))))
+    cond (eqb c 0x22) (Some 0x22)
+    (cond (eqb c 0x5C) (Some 0x5C)
+    (cond (eqb c 0x08) (Some 0x62)
+    (cond (eqb c 0x0C) (Some 0x66)
+    (cond (eqb c 0x0A) (Some 0x6E)
+    (cond (eqb c 0x0D) (Some 0x72)
+    (cond (eqb c 0x09) (Some 0x74) None))))))
 
 -- "lower-case digits": that of a number below 16
 unfoldable pub hex_digit : ℕ → ℕ
@@ -29,9 +29,13 @@ hex_digit n = cond (ltb n 10) (0x30 + n) (0x57 + n)
 abbrev pub long_form : ℕ → List ℕ
 long_form c = 0x5C ∷ 0x75 ∷ 0x30 ∷ 0x30 ∷ hex_digit (c / 16) ∷ hex_digit (c % 16) ∷ []
 
--- either form
+-- the short form by its letter, and the long one where there is none
+abbrev pub form : ℕ → Option ℕ → List ℕ
+form c (Some l) = 0x5C ∷ l ∷ []
+form c None = long_form c
+
 abbrev pub escape : ℕ → List ℕ
-escape c = cond (eqb (letter_of c) 0) (long_form c) (0x5C ∷ letter_of c ∷ [])
+escape c = form c (letter_of c)
 
 -- a character: an escape, or its bytes of UTF-8
 unfoldable pub spell_char : ℕ → List ℕ

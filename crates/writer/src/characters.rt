@@ -4,19 +4,19 @@ ghost use Rattle.writer.specs.Spell.{letter_of, hex_digit, long_form, spell_char
 ghost use Rattle.writer.specs.Compact.{over};
 ghost use Rattle.grammar.specs.Utf8.{utf8};
 
-// The byte behind the backslash of a short escape; 0 where there is none.
-fn letter(c: u32) -> u8
+// The byte behind the backslash of a short escape.
+fn letter(c: u32) -> Option<u8>
     ensures { result ≡ letter_of c }
 {
     match c {
-        0x22 => b'"',
-        0x5c => b'\\',
-        0x08 => b'b',
-        0x0c => b'f',
-        0x0a => b'n',
-        0x0d => b'r',
-        0x09 => b't',
-        _ => 0,
+        0x22 => Some(b'"'),
+        0x5c => Some(b'\\'),
+        0x08 => Some(b'b'),
+        0x0c => Some(b'f'),
+        0x0a => Some(b'n'),
+        0x0d => Some(b'r'),
+        0x09 => Some(b't'),
+        _ => None,
     }
 }
 
@@ -32,22 +32,16 @@ fn hex_digit(n: u8) -> u8
 pub fn char_len(c: u32) -> usize
     ensures { result ≡ length (spell_char c) }
 {
-    if letter(c) != 0 {
-        return 2;
+    match letter(c) {
+        Some(_) => 2,
+        None => match c {
+            0..=0x1f => 6,
+            0x20..=0x7f => 1,
+            0x80..=0x7ff => 2,
+            0x800..=0xffff => 3,
+            _ => 4,
+        },
     }
-    if c < 0x20 {
-        return 6;
-    }
-    if c < 0x80 {
-        return 1;
-    }
-    if c < 0x800 {
-        return 2;
-    }
-    if c < 0x10000 {
-        return 3;
-    }
-    4
 }
 
 // Writes the escape with four digits of a character below 20 hex.
@@ -63,7 +57,7 @@ fn write_long(c: u32, out: &mut [u8])
     out[5] = hex_digit((c % 16) as u8);
 }
 
-// Writes the bytes of UTF-8.
+// Writes the bytes of UTF-8, of a surrogate too, which `char` and its methods do not take.
 pub fn write_utf8(c: u32, out: &mut [u8]) -> usize
     requires { (c ≤ 0x10FFFF) × (length (utf8 c) ≤ length out.old) }
     ensures value { result ≡ length (utf8 c) }
@@ -99,10 +93,9 @@ pub fn write_char(c: u32, out: &mut [u8]) -> usize
     ensures value { result ≡ length (spell_char c) }
     ensures out_after { out.new ≡ over (spell_char c) out.old }
 {
-    let short = letter(c);
-    if short != 0 {
+    if let Some(letter) = letter(c) {
         out[0] = b'\\';
-        out[1] = short;
+        out[1] = letter;
         return 2;
     }
     if c < 0x20 {

@@ -35,6 +35,7 @@ pub fn compact(text: &[u8], table: &mut [u32], buffer: &mut [u8]) -> Answer
     ensures rows { table.new ≡ table_of table.old (read_within document_limits text.now) }
     ensures writes { buffer.new ≡ compact_buffer (length table.old) buffer.old text.now }
 {
+    // A service answers four numbers (01, "Three services"): a refusal has a code.
     let a = read(text, table);
     if a.code != 0 {
         return a;

@@ -16,6 +16,7 @@ pub struct Piece {
 }
 
 // The escape at a place of a string; or the bytes from there on that are copied as they stand, up to the next escape or the closing quote.
+// Measuring and writing have a walk each: one walk over a trait would need the trait's laws, a buffer that keeps its place, and wrappers for callers, which are longer.
 fn measure_stretch(text: &[u8], at: usize) -> Piece
     ensures { result ≡ piece (stretch_end text.now at) (stretch_bytes text.now at) }
 {

@@ -10,38 +10,19 @@ use chars::run_end;
 fn is_ordinary(b: u8) -> bool
     ensures { result ≡ is_ordinary b }
 {
-    match b {
-        b'"' => false,
-        b'\\' => false,
-        _ => true,
-    }
+    !matches!(b, b'"' | b'\\')
 }
 
 pub fn is_structural(b: u8) -> bool
     ensures { result ≡ is_structural b }
 {
-    match b {
-        b'[' => true,
-        b'{' => true,
-        b']' => true,
-        b'}' => true,
-        b':' => true,
-        b',' => true,
-        _ => false,
-    }
+    matches!(b, b'[' | b'{' | b']' | b'}' | b':' | b',')
 }
 
 fn is_atom(b: u8) -> bool
     ensures { result ≡ is_atom b }
 {
-    match b {
-        b' ' => false,
-        b'\t' => false,
-        b'\n' => false,
-        b'\r' => false,
-        b'"' => false,
-        _ => !is_structural(b),
-    }
+    !matches!(b, b' ' | b'\t' | b'\n' | b'\r' | b'"') && !is_structural(b)
 }
 
 // The place behind the ordinary bytes of a string at a place.

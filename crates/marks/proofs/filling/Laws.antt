@@ -107,7 +107,7 @@ module _ (ms : List ℕ) where
   as_many : (k : ℕ) → k ≤ length ms → length (mark_entries (take k ms)) ≡ length (parents_to size k)
   as_many k l = omega (arith, marks_length (take k ms), length-take-le k ms l, parents_count size k)
 
-  pub words_none : mark_words ms 0 ≡ []
+  words_none : mark_words ms 0 ≡ []
   words_none = rw entries_none
 
   words_count : (k : ℕ) → k ≤ length ms → length (mark_words ms k) ≡ row_words * k
@@ -127,7 +127,7 @@ module _ (ms : List ℕ) where
   Stored t u k = u ≡ sets t 0 (mark_words ms k)
 
   -- and the row of its mark behind them
-  pub row_stored : (t : List ℕ) {u u₂ : List ℕ} (k : ℕ) → k < length ms → Stored t u k
+  row_stored : (t : List ℕ) {u u₂ : List ℕ} (k : ℕ) → k < length ms → Stored t u k
       → u₂ ≡ sets u (row_words * k) (row (mark_entry (get_or ms k 0)) (last_open size k k)) → Stored t u₂ (k + 1)
   row_stored t k h p q =
       let e : row_words * k ≡ 0 + length (mark_words ms k) = omega (arith, words_count k (omega arith)) in
@@ -147,12 +147,8 @@ module _ (ms : List ℕ) where
         (omega (arith, marks_length (take k ms), length-take-le k ms l)) h
         ∙ ap₂ (λ (y : Entry) (q : ℕ). get_or (row y q) i 0) x (parents_at size k j g)
 
-    pub stored_size : (j : ℕ) → j < k → word u j 4 ≡ size j
+    stored_size : (j : ℕ) → j < k → word u j 4 ≡ size j
     stored_size j g = stored_word j 4 g (omega arith)
-
-  -- the last of n was stored
-  pub rows_stored : (t : List ℕ) {u : List ℕ} {k n : ℕ} → Stored t u k → k ≤ n → n ≤ k → Stored t u n
-  rows_stored t {k = k} {n} p l m = let e : k ≡ n = omega arith in rw e at p
 
 -- ---- the row that is being filled
 
@@ -172,11 +168,15 @@ module _ (ms : List ℕ) (rows : ℕ) where
     pub closed : (j : ℕ) → parent < j → j < k → j + mark_size ms j ≤ k
     pub list : 0 < k → 1 < mark_size ms parent
 
-  pub filling_same : {now now₂ : List ℕ} {k parent parent₂ end end₂ : ℕ} → now ≡ now₂ → parent ≡ parent₂ → end ≡ end₂ → Filling now₂ k parent₂ end₂
-      → Filling now k parent end
-  filling_same a b c f = rw (a, b, c) f
+  -- row k stands in row `parent`, which ends at `end`
+  pub record Standing (k parent end : ℕ) : Type 0 where
+    pub below : parent ≤ k - 1
+    pub ends : end ≡ parent + mark_size ms parent
+    pub inside : k < end
+    pub closed : (j : ℕ) → parent < j → j < k → j + mark_size ms j ≤ k
 
-  pub filling_begins : FillReady ms rows → 0 < rows → Filling ms 0 0 rows
+module _ {ms : List ℕ} {rows : ℕ} where
+  filling_begins : FillReady ms rows → 0 < rows → Filling ms rows ms 0 0 rows
   filling_begins h l = record {
     same = refl;
     ahead = λ j _. refl;
@@ -188,19 +188,12 @@ module _ (ms : List ℕ) (rows : ℕ) where
     list = λ z. absurd (omega arith);
   }
 
-  -- row k stands in row `parent`, which ends at `end`
-  pub record Standing (k parent end : ℕ) : Type 0 where
-    pub below : parent ≤ k - 1
-    pub ends : end ≡ parent + mark_size ms parent
-    pub inside : k < end
-    pub closed : (j : ℕ) → parent < j → j < k → j + mark_size ms j ≤ k
-
-  pub standing_is : {k parent end : ℕ} → Standing k parent end → parent ≡ last_open (mark_size ms) k k
+  standing_is : {k parent end : ℕ} → Standing ms rows k parent end → parent ≡ last_open (mark_size ms) k k
   standing_is {k} {parent} s =
       sym (last_is (mark_size ms) k k parent s.below s.closed (λ _. omega (arith, s.inside, s.ends)))
 
-  module _ (h : FillReady ms rows) {now : List ℕ} {k parent end : ℕ} (f : Filling now k parent end) (l : k < rows) where
-    pub stands_here : (k ≡ end → ⊥) → Standing k parent end
+  module _ (h : FillReady ms rows) {now : List ℕ} {k parent end : ℕ} (f : Filling ms rows now k parent end) (l : k < rows) where
+    stands_here : (k ≡ end → ⊥) → Standing ms rows k parent end
     stands_here n = record { below = f.below; ends = f.ends; inside = omega (arith, f.inside, n); closed = f.closed }
 
     -- the row that was filled ends here
@@ -215,33 +208,32 @@ module _ (ms : List ℕ) (rows : ℕ) where
           let q : parent + mark_size ms parent ≡ k = omega (arith, f.ends) in
           rw q at (f.onward parent ended (f.list (omega (arith, ended))) (omega arith))
 
-      module _ {up : ℕ} (u : up ≡ get_or now parent 0) where
-        is_last : up ≡ last_open (mark_size ms) k parent
-        is_last = u ∙ goes_up
+      abbrev up : ℕ
+      up = get_or now parent 0
 
-        pub up_below : up < k
-        up_below = omega (arith, ended, is_last, last_below (mark_size ms) k parent)
+      up_below : up < k
+      up_below = omega (arith, ended, goes_up, last_below (mark_size ms) k parent)
 
-        -- the top ends behind the last row
-        still_open : k < up + mark_size ms up
-        still_open =
-            by_test (ltb 0 up)
-            (λ y. let z = last-open (mark_size ms) k parent (omega (arith, is_last, ltb-true 0 up y)) in rw is_last z)
-            (λ n. let z : up ≡ 0 = omega (arith, ltb-false 0 up n) in rw z (omega (arith, h.top (omega arith))))
+      -- the top ends behind the last row
+      still_open : k < up + mark_size ms up
+      still_open =
+          by_test (ltb 0 up)
+          (λ y. let z = last-open (mark_size ms) k parent (omega (arith, goes_up, ltb-true 0 up y)) in rw goes_up z)
+          (λ n. let z : up ≡ 0 = omega (arith, ltb-false 0 up n) in rw z (omega (arith, h.top (omega arith))))
 
-        pub stands_up : {last : ℕ} → last ≡ up + mark_size ms up → Standing k up last
-        stands_up v = record {
-          below = omega (arith, up_below);
-          ends = v;
-          inside = omega (arith, still_open);
-          closed = λ j b c. by_test (ltb parent j) (λ y. f.closed j (ltb-true parent j y) c)
-              (λ n. by_test (ltb j parent)
-              (λ y. last_closed (mark_size ms) k parent j (rw is_last at b) (ltb-true j parent y))
-              (λ m. let q : j ≡ parent = omega (arith, ltb-false parent j n, ltb-false j parent m) in rw q (omega (arith, f.ends))));
-        }
+      stands_up : {last : ℕ} → last ≡ up + mark_size ms up → Standing ms rows k up last
+      stands_up v = record {
+        below = omega (arith, up_below);
+        ends = v;
+        inside = omega (arith, still_open);
+        closed = λ j b c. by_test (ltb parent j) (λ y. f.closed j (ltb-true parent j y) c)
+            (λ n. by_test (ltb j parent)
+            (λ y. last_closed (mark_size ms) k parent j (rw goes_up at b) (ltb-true j parent y))
+            (λ m. let q : j ≡ parent = omega (arith, ltb-false parent j n, ltb-false j parent m) in rw q (omega (arith, f.ends))));
+      }
 
     -- row k is written, and its mark makes way
-    module _ {p e : ℕ} (s : Standing k p e) where
+    module _ {p e : ℕ} (s : Standing ms rows k p e) where
       abbrev o : ℕ
       o = onward now (k + mark_size ms k) p e
 
@@ -271,7 +263,7 @@ module _ (ms : List ℕ) (rows : ℕ) where
       in_now : k < length now
       in_now = omega (arith, f.same, h.few)
 
-      pub filled_list : 1 < mark_size ms k → Filling (set now k o) (k + 1) k (k + mark_size ms k)
+      filled_list : 1 < mark_size ms k → Filling ms rows (set now k o) (k + 1) k (k + mark_size ms k)
       filled_list g = record {
         same = length-set now k o ∙ f.same;
         ahead = λ j a. get_or-set_other now k j o 0 (λ e. omega arith) ∙ f.ahead j (omega arith);
@@ -292,7 +284,7 @@ module _ (ms : List ℕ) (rows : ℕ) where
           let w : mark_size ms 0 ≤ 1 = rw z at g in
           omega (arith, w, h.top (omega arith))))
 
-      pub filled_leaf : mark_size ms k ≤ 1 → k + 1 < rows → Filling now (k + 1) p e
+      filled_leaf : mark_size ms k ≤ 1 → k + 1 < rows → Filling ms rows now (k + 1) p e
       filled_leaf g m = record {
         same = f.same;
         ahead = λ j a. f.ahead j (omega arith);
@@ -305,3 +297,51 @@ module _ (ms : List ℕ) (rows : ℕ) where
             (λ n. let q : j ≡ k = omega (arith, ltb-false j k n) in rw q (omega arith));
         list = λ _. parent_list g m;
       }
+
+-- ---- a turn of the loop
+
+-- the rows before k are stored in u, and row k is to be filled, where there is one
+pub record Reached (ms t : List ℕ) (rows : ℕ) (now u : List ℕ) (k parent end : ℕ) : Type 0 where
+  pub stored : Stored ms t u k
+  pub filling : k < rows → Filling ms rows now k parent end
+
+pub begins : {ms : List ℕ} {rows : ℕ} (t : List ℕ) → FillReady ms rows → Reached ms t rows ms t 0 0 rows
+begins t h = record { stored = rw words_none; filling = λ l. filling_begins h l }
+
+module _ {ms t : List ℕ} {rows : ℕ} (g : FillReady ms rows × (row_words * rows ≤ length t)) {now u : List ℕ} {k parent end : ℕ} where
+  module _ (r : Reached ms t rows now u k parent end) (l : k < rows) where
+    f : Filling ms rows now k parent end
+    f = r.filling l
+
+    -- what stands in the row that was filled is filled, and the row that it stands in is gone on with
+    pub behind_below : k ≡ end → get_or now parent 0 < k
+    behind_below e = up_below g.0 f l e
+
+    pub stands_behind : k ≡ end → {last : ℕ} → last ≡ get_or now parent 0 + word u (get_or now parent 0) 4
+        → Standing ms rows k (get_or now parent 0) last
+    stands_behind e {last} q =
+        let w = stored_size ms t k r.stored (omega (arith, g.0.few)) (omega (arith, g.1)) (get_or now parent 0) (behind_below e) in
+        stands_up g.0 f l e (omega (arith, q, w))
+
+    pub stands_still : (k ≡ end → ⊥) → Standing ms rows k parent end
+    stands_still n = stands_here g.0 f l n
+
+    -- row k is written, and stands in row p
+    module _ {p e : ℕ} (s : Standing ms rows k p e) where
+      own : get_or now k 0 ≡ get_or ms k 0
+      own = f.ahead k (omega arith)
+
+      module _ {u₂ : List ℕ} (q : u₂ ≡ sets u (row_words * k) (row (mark_entry (get_or now k 0)) p)) {n : ℕ} (z : n ≡ (mark_entry (get_or now k 0)).rows) where
+        wrote : Stored ms t u₂ (k + 1)
+        wrote = row_stored ms t k (omega (arith, g.0.few)) r.stored (rw (← own, ← standing_is s) q)
+
+        sized : n ≡ mark_size ms k
+        sized = rw own at z
+
+        -- the next row stands in it
+        pub goes_in : 1 < n → Reached ms t rows (set now k (onward now (k + n) p e)) u₂ (k + 1) k (k + n)
+        goes_in b = record { stored = wrote; filling = λ _. rw sized (filled_list g.0 f l s (omega (arith, sized))) }
+
+        -- or stands behind it
+        pub goes_by : n ≤ 1 → Reached ms t rows now u₂ (k + 1) p e
+        goes_by b = record { stored = wrote; filling = λ c. filled_leaf g.0 f l s (omega (arith, sized)) c }

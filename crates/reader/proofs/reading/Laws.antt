@@ -29,7 +29,6 @@ use Rattle.chars.specs.declared.refusals.Refusal.{Refusal}
 use Rattle.reader.specs.Scanning.{scanned}
 use Rattle.chars.specs.declared.refusals.Code.TheVariants.{TooLong, NotAllowed}
 use Rattle.chars.specs.Characters.{refusal_at}
-use Rattle.tokens.proofs.Facts.{unexpected_in}
 
 -- ---- both passes
 

@@ -19,7 +19,7 @@ use Rattle.marks.proofs.Facts.{within_join, within_wider, within_kept}
 use Rattle.reader.proofs.scanning.Told.{told_parsed}
 use Rattle.reader.proofs.scanning.Lists.{Bracket, Opened, Filled, Turn, Inside, Followed, first_fits, first_close, first_inside, stays, inside_refused}
 use Rattle.std.specs.Prelude.{Ok, Err}
-use Rattle.chars.specs.Refusals.{number, refusal, Reading}
+use Rattle.chars.specs.Refusals.{Reading}
 use Rattle.chars.specs.declared.refusals.Refusal.{Refusal}
 use Rattle.reader.specs.Scanning.{scanned}
 

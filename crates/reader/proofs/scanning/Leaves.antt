@@ -12,14 +12,14 @@ use Rattle.tokens.specs.Scalars.{scalar_by, scalar_at}
 use Rattle.tokens.specs.declared.scalars.First.{First}
 use Rattle.tokens.specs.declared.tokens.Token.{Token}
 use Rattle.tokens.proofs.Facts.{scalar_bounded}
-use Rattle.syntax.specs.Rows.{Entry, entry}
+use Rattle.syntax.specs.Rows.{Entry}
 use Rattle.syntax.specs.Grammar.{leaf_at}
 use Rattle.marks.specs.Marks.{leaf_mark, is_name, mark_entry}
 use Rattle.reader.specs.Scanning.{Begun, LeafReady, LeafTold}
 use Rattle.marks.proofs.Facts.{leaf_entry, leaf_unnamed}
 use Rattle.model.proofs.Basics.{never}
 use Rattle.std.specs.Prelude.{Ok, Err}
-use Rattle.chars.specs.Refusals.{number, refusal, Reading}
+use Rattle.chars.specs.Refusals.{Reading}
 use Rattle.chars.specs.declared.refusals.Refusal.{Refusal}
 use Rattle.reader.specs.Scanning.{scanned}
 use Rattle.reader.proofs.scanning.Outcomes.{read_refused}

@@ -7,7 +7,7 @@ use native.Mathlib.Omega.{arith}
 use lib.ListN.{length, take, get_or, set}
 use lib.Seq.{slice, slice_empty, take-set-le, get_or-set_same}
 use Rattle.chars.specs.Bytes.{byte_at}
-use Rattle.tokens.specs.Parse.{Parse, refused, parsed, then, unexpected}
+use Rattle.tokens.specs.Parse.{Parse, refused, parsed, then}
 use Rattle.tokens.specs.Space.{is_space, skip}
 use Rattle.chars.proofs.Facts.{run-from, run_within}
 use Rattle.syntax.specs.Tree.{Node}
@@ -15,7 +15,7 @@ use Rattle.syntax.specs.Rows.{Entry, entry, size, entries}
 use Rattle.syntax.specs.Grammar.{items_at, list_at}
 use Rattle.marks.specs.Marks.{list_mark, is_name, mark_entry, mark_entries}
 use Rattle.marks.specs.Names.{Fresh, Within, Index}
-use Rattle.reader.specs.Scanning.{scan_of, Room, Ready, ListFits, Follows, Told}
+use Rattle.reader.specs.Scanning.{Room, Ready, ListFits, Follows, Told}
 use Rattle.reader.specs.declared.scanning.Following.{Following}
 use Rattle.reader.specs.declared.scanning.Following.TheVariants.{Closing, Item, Other}
 use Rattle.reader.specs.declared.scanning.Scanned.{Scanned}
@@ -25,7 +25,7 @@ use Rattle.marks.proofs.Facts.{within_none, within_join, within_set, index_plain
 use Rattle.reader.proofs.scanning.Slices.{slice_kept, slice_meet, slice_header, kept_below}
 use Rattle.reader.proofs.scanning.Told.{told_refused, told_value, told_bad, unexpected_then}
 use Rattle.std.specs.Prelude.{Ok, Err}
-use Rattle.chars.specs.Refusals.{number, refusal, Reading}
+use Rattle.chars.specs.Refusals.{Reading}
 use Rattle.chars.specs.declared.refusals.Refusal.{Refusal}
 use Rattle.reader.specs.Scanning.{scanned}
 use Rattle.chars.specs.Characters.{refusal_at}

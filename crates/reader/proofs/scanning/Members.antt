@@ -19,7 +19,7 @@ use Rattle.syntax.specs.Rows.{entry, size, sizes_members, Entry, entries, entrie
 use Rattle.syntax.specs.Grammar.{name_of, name_at, member_at, value_at}
 use Rattle.marks.specs.Marks.{name_mark, mark_entry, mark_entries}
 use Rattle.marks.specs.Names.{name_first, name_end, name_in, own_hash, Owned, Fresh, Kept, bucket_of, Index, NameReady, hashed_of, NameTold}
-use Rattle.reader.specs.Scanning.{scan_of, Ready, Marked, Told, MemberReady, MemberScan, MemberTold}
+use Rattle.reader.specs.Scanning.{Ready, Marked, Told, MemberReady, MemberScan, MemberTold}
 use Rattle.reader.specs.declared.scanning.Scanned.{Scanned}
 use Rattle.syntax.proofs.Facts.{byte_in, sizes_members_add, entries_members_add, name_within, name_takes, member_bare, member_value, value_takes}
 use Rattle.reader.proofs.scanning.Outcomes.{scan_refused}
@@ -30,7 +30,7 @@ use Rattle.reader.proofs.scanning.Slices.{kept_write}
 use Rattle.reader.proofs.scanning.Told.{told_parsed}
 use Rattle.chars.specs.declared.refusals.Code.TheVariants.{Ended, NotAllowed}
 use Rattle.std.specs.Prelude.{Ok, Err}
-use Rattle.chars.specs.Refusals.{number, refusal, Reading}
+use Rattle.chars.specs.Refusals.{refusal, Reading}
 use Rattle.chars.specs.declared.refusals.Refusal.{Refusal}
 use Rattle.reader.specs.Scanning.{scanned}
 use Rattle.chars.specs.Characters.{refusal_at}

@@ -20,7 +20,7 @@ use Rattle.model.proofs.Basics.{never}
 use Rattle.reader.proofs.scanning.Lists.{Bracket, Opened, Turn, Inside, Followed, first_fits, first_close, first_inside, stays, inside_ready}
 use Rattle.reader.proofs.scanning.Lists.{inside_refused}
 use Rattle.std.specs.Prelude.{Ok, Err}
-use Rattle.chars.specs.Refusals.{number, refusal, Reading}
+use Rattle.chars.specs.Refusals.{refusal, Reading}
 use Rattle.chars.specs.declared.refusals.Refusal.{Refusal}
 use Rattle.reader.specs.Scanning.{scanned}
 

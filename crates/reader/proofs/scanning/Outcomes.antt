@@ -16,7 +16,7 @@ use Rattle.reader.specs.Scanning.{scan_of}
 use Rattle.model.proofs.Basics.{never}
 use Rattle.syntax.proofs.Facts.{stored}
 use Rattle.std.specs.Prelude.{Ok, Err}
-use Rattle.chars.specs.Refusals.{number, refusal, Reading}
+use Rattle.chars.specs.Refusals.{number, refusal}
 use Rattle.chars.specs.declared.refusals.Refusal.{Refusal}
 use Rattle.reader.specs.Scanning.{scanned}
 use Rattle.reader.specs.declared.scanning.Scanned.{Scanned}

@@ -8,13 +8,13 @@ use lib.Dec.{ltb}
 use Rattle.tokens.specs.Parse.{Parse, refused, parsed, then, unexpected}
 use Rattle.syntax.specs.Tree.{Node}
 use Rattle.syntax.specs.Rows.{size}
-use Rattle.reader.specs.Scanning.{scan_of, Marked, After, Told}
+use Rattle.reader.specs.Scanning.{Marked, After, Told}
 use Rattle.reader.specs.declared.scanning.Scanned.{Scanned}
 use Rattle.syntax.proofs.Facts.{unexpected_both}
 use Rattle.reader.proofs.scanning.Outcomes.{scan_value}
 use Rattle.chars.specs.declared.refusals.Code.TheVariants.{Ended, NotAllowed}
 use Rattle.std.specs.Prelude.{Ok, Err}
-use Rattle.chars.specs.Refusals.{number, refusal, Reading}
+use Rattle.chars.specs.Refusals.{Reading}
 use Rattle.chars.specs.declared.refusals.Refusal.{Refusal}
 use Rattle.reader.specs.Scanning.{scanned}
 use Rattle.chars.specs.Characters.{refusal_at}

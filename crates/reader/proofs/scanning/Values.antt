@@ -32,9 +32,8 @@ use Rattle.marks.proofs.Facts.{entries_cons, entries_none, fresh_later, within_e
 use Rattle.reader.proofs.scanning.Slices.{slice_header}
 use Rattle.reader.proofs.scanning.Told.{told_refused}
 use Rattle.reader.proofs.scanning.Lists.{Filled, header_index, header_fresh, header_owned}
-use Rattle.std.specs.Prelude.{Ok, Err}
-use Rattle.chars.specs.Refusals.{number, refusal, Reading}
-use Rattle.chars.specs.declared.refusals.Refusal.{Refusal}
+use Rattle.std.specs.Prelude.{Ok, Err, Option, Some}
+use Rattle.chars.specs.Refusals.{refusal, Reading}
 use Rattle.reader.specs.Scanning.{scanned}
 use Rattle.tokens.specs.Tokens.{kind_number, token}
 use Rattle.chars.specs.declared.refusals.Code.TheVariants.{TooDeep}
@@ -119,21 +118,16 @@ not_object : Number ≡ Object → ⊥
 not_object q = never (cc)
 
 -- a number of digits alone stands at i, up to e
-pub record IntegerRead (s hs ms : List ℕ) (d row i e : ℕ) : Type 0 where
-  pub ready : Ready s hs ms d row i
-  pub ends : e ≡ integer_end s i
-  pub some : i < e
-
-module _ {s hs ms : List ℕ} {d row i e : ℕ} (n : IntegerRead s hs ms d row i e) where
+module _ {s hs ms : List ℕ} {d row i e : ℕ} {r : Option ℕ} (p : Ready s hs ms d row i) (ends : r ≡ integer_end s i) (some : r ≡ Some e) where
   integer_is : (first_of (byte_at s i) ≡ Number) × (scalar_at s i ≡ parsed Whole e)
-  integer_is = rw n.ends (integer_read s i (omega (arith, n.ends)))
+  integer_is = integer_read s i e (sym ends ∙ some)
 
   integer_leaf : LeafRead s ms row i (Ok (token Whole e))
-  integer_leaf = record { ready = leaf_ready n.ready; is = rw integer_is.1 }
+  integer_leaf = record { ready = leaf_ready p; is = rw integer_is.1 }
 
   pub integer_fits : ((kind_number Whole < 65536) × (i < e) × (e ≤ 65536)) × (row < length ms)
   integer_fits = leaf_fits integer_leaf refl
 
   pub told_integer : {m : ℕ} → m ≡ leaf_mark (kind_number Whole) i e → Told s (value_at d s i) (Ok (scanned e 1)) row ms hs (set ms row m)
   told_integer {m} q =
-      let f = sym integer_is.0 in as_leaf (set ms row m) n.ready (λ z. not_array (f ∙ z)) (λ z. not_object (f ∙ z)) (leaf_noted integer_leaf refl q)
+      let f = sym integer_is.0 in as_leaf (set ms row m) p (λ z. not_array (f ∙ z)) (λ z. not_object (f ∙ z)) (leaf_noted integer_leaf refl q)

@@ -1,18 +1,17 @@
 -- Values that hold no other: what their first byte says, where they end, and how they are spelled.
 use mathlib.Core.Path.{◌≡◌, refl, sym, ◌∙◌, subst}
 use mathlib.Core.List.{List, [], ◌∷◌}
-use mathlib.Core.Bool.{true, false, cond, ◌||◌, ◌&&◌, or-true}
-use mathlib.Core.Logic.{◌⊎◌, inl, inr}
+use mathlib.Core.Bool.{true, false, ◌||◌, ◌&&◌, or-true}
 use Prim.Native.Nat.{ℕ, ◌+◌, ◌-◌, ◌≤◌, ◌<◌}
 use native.Mathlib.Decide.{dec_lt}
 use native.Mathlib.Omega.{arith}
 use lib.ListN.{length, get_or-eq_default}
 use lib.Dec.{eqb, leb, ltb}
-use borrow.Author.Tests.{eq-eqb, eqb-true, leb-true, ltb-true, lt-ltb, lt-leb, le-leb, ne_eqb}
+use borrow.Author.Tests.{eq-eqb, eqb-true, leb-true, ltb-true, lt-ltb, le-leb, ne_eqb}
 use Rattle.model.specs.Text.{text, all, is_scalar, is_text}
 use Rattle.model.specs.Value.{is_digit}
 use Rattle.model.proofs.Basics.{or-false, both, and_ways}
-use Rattle.std.specs.Prelude.{Ok, Err}
+use Rattle.std.specs.Prelude.{Ok, Err, Option, Some}
 use Rattle.chars.specs.Refusals.{number, Reading}
 use Rattle.tokens.specs.declared.scalars.First.{First}
 use Rattle.tokens.specs.declared.scalars.First.TheVariants.{Array, Object, Quote, Number, LetterN, LetterF, LetterT, Other}
@@ -192,37 +191,11 @@ number_minus : (b : ℕ) → b ≡ 0x2D → first_of b ≡ Number
 unfolding first_of
 number_minus b e = rw e
 
-module _ (s : List ℕ) (i f : ℕ) where
+module _ (s : List ℕ) (f : ℕ) where
   abbrev ending : ℕ
   ending = digits_end s (f + 1)
 
-  -- none begin at f, where the byte b stands
-  module _ {b : ℕ} (read : b ≡ byte_at s f) where
-    pub digits_below : b < 0x31 → digits_from s i f ≡ i
-    unfolding digits_from
-    digits_below l = rw (← read, lt-leb 0x31 b l)
-
-    pub digits_above : 0x31 ≤ b → 0x39 < b → digits_from s i f ≡ i
-    unfolding digits_from
-    digits_above l m = rw (← read, le-leb 0x31 b l, lt-leb b 0x39 m)
-
   module _ (l : 0x31 ≤ byte_at s f) (m : byte_at s f ≤ 0x39) where
-    -- they end at e, and x is the byte there: the number goes on with it, or has digits alone
-    module _ {e x : ℕ} (ended : e ≡ ending) (behind : x ≡ byte_at s e) where
-      digits_by : digits_from s i f ≡ cond (goes_on x) i e
-      unfolding digits_from
-      digits_by = rw (le-leb 0x31 (byte_at s f) l, le-leb (byte_at s f) 0x39 m, ← ended, ← behind)
-
-      pub going_on : (x ≡ 0x2E) ⊎ ((x ≡ 0x45) ⊎ (x ≡ 0x65)) → i ≡ digits_from s i f
-      unfolding goes_on
-      going_on (inl q) = rw (digits_by, q)
-      going_on (inr (inl q)) = rw (digits_by, q)
-      going_on (inr (inr q)) = rw (digits_by, q)
-
-      pub digits_alone : (x ≡ 0x2E → ⊥) → (x ≡ 0x45 → ⊥) → (x ≡ 0x65 → ⊥) → e ≡ digits_from s i f
-      unfolding goes_on
-      digits_alone n₁ n₂ n₃ = rw (digits_by, ne_eqb x 0x2E n₁, ne_eqb x 0x45 n₂, ne_eqb x 0x65 n₃)
-
     -- the digits behind the first end where all of them do
     all_digits : digits_end s f ≡ ending
     all_digits = run_next is_digit s f (in_text s f (omega arith)) (digit_test (byte_at s f) (omega arith) m)
@@ -237,28 +210,30 @@ module _ (s : List ℕ) (i f : ℕ) where
         rw (ne_eqb (byte_at s f) 0x30 (λ q. omega arith), all_digits, ne_eqb ending f (λ q. omega (arith, begins_on)), x.0, x.1)
 
   -- where they begin, they are read so
-  from_read : i < digits_from s i f → (unsigned_at s f ≡ parsed Whole (digits_from s i f)) × (0x31 ≤ byte_at s f) × (byte_at s f ≤ 0x39)
+  from_read : {e : ℕ} → digits_from s f ≡ Some e → (unsigned_at s f ≡ parsed Whole e) × (0x31 ≤ byte_at s f) × (byte_at s f ≤ 0x39)
   unfolding digits_from
-  from_read =
+  from_read {e} =
       let b = byte_at s f in
-      let P : ℕ → Type 0 = λ r. i < r → (unsigned_at s f ≡ parsed Whole r) × (0x31 ≤ b) × (b ≤ 0x39) in
+      let P : Option ℕ → Type 0 = λ r. r ≡ Some e → (unsigned_at s f ≡ parsed Whole e) × (0x31 ≤ b) × (b ≤ 0x39) in
       both P (leb 0x31 b && leb b 0x39)
-      (λ t. both P (goes_on (byte_at s ending)) (λ _ l. absurd (omega arith))
-      (λ g _. and_ways (leb 0x31 b) (leb b 0x39) t (λ l m. let x = leb-true 0x31 b l in let y = leb-true b 0x39 m in (digits_read x y g, x, y))))
-      (λ _ l. absurd (omega arith))
+      (λ t. both P (goes_on (byte_at s ending)) (λ _ q. absurd (cc))
+      (λ g q. and_ways (leb 0x31 b) (leb b 0x39) t (λ l m. let x = leb-true 0x31 b l in
+      let y = leb-true b 0x39 m in
+      let z : ending ≡ e = cc in (rw z at (digits_read x y g), x, y))))
+      (λ _ q. absurd (cc))
 
 -- where a number of digits stands, it is read so
 module _ (s : List ℕ) (i : ℕ) where
   abbrev IntegerRead : ℕ → Type 0
-  IntegerRead f = i < digits_from s i f → (first_of (byte_at s i) ≡ Number) × (scalar_at s i ≡ parsed Whole (digits_from s i f))
+  IntegerRead f = (e : ℕ) → digits_from s f ≡ Some e → (first_of (byte_at s i) ≡ Number) × (scalar_at s i ≡ parsed Whole e)
 
   behind_minus : eqb (byte_at s i) 0x2D ≡ true → IntegerRead (i + 1)
   unfolding number_at
-  behind_minus t l = let n = number_minus (byte_at s i) (eqb-true (byte_at s i) 0x2D t) in (n, rw (n, t) (from_read s i (i + 1) l).0)
+  behind_minus t e q = let n = number_minus (byte_at s i) (eqb-true (byte_at s i) 0x2D t) in (n, rw (n, t) (from_read s (i + 1) q).0)
 
   no_minus : eqb (byte_at s i) 0x2D ≡ false → IntegerRead i
   unfolding number_at
-  no_minus t l = let h = from_read s i i l in let n = number_digit (byte_at s i) (omega arith) h.2 in (n, rw (n, t) h.0)
+  no_minus t e q = let h = from_read s i q in let n = number_digit (byte_at s i) (omega arith) h.2 in (n, rw (n, t) h.0)
 
   pub integer_read : IntegerRead (minus_end s i)
   unfolding minus_end

@@ -1,8 +1,9 @@
 -- A word, byte by byte from its kth on; the number behind a minus; what a value begins with, by its tag.
 use mathlib.Core.Path.{◌≡◌}
 use mathlib.Core.List.{List}
-use Prim.Native.Nat.{ℕ, ◌+◌, ◌≤◌, ◌<◌}
+use Prim.Native.Nat.{ℕ, suc, ◌+◌, ◌≤◌, ◌<◌}
 use native.Mathlib.Numerals.{add-one}
+use native.Mathlib.Omega.{arith}
 use lib.ListN.{length, drop, get_or, drop_of_length-le}
 use lib.Seq.{drop-cons}
 use borrow.Author.Tests.{eq-eqb, ne_eqb}
@@ -15,33 +16,23 @@ use Rattle.chars.specs.Strings.{string_at}
 use Rattle.tokens.specs.declared.tokens.Kind.{Kind}
 use Rattle.tokens.specs.declared.tokens.Kind.TheVariants.{Quoted}
 use Rattle.tokens.specs.Tokens.{token, token_of}
-use Rattle.tokens.specs.Integers.{minus_end, digits_from, integer_end}
 use Rattle.tokens.specs.Scalars.{word_at, quoted}
 
 module _ (t : Kind) (w s : List ℕ) (i k : ℕ) where
-  -- b is the byte at i
-  module _ {b : ℕ} (read : b ≡ byte_at s i) (h : k < length w) where
-    pub word_next : b ≡ get_or w k 0 → word_at t (drop k w) s i ≡ word_at t (drop (k + 1) w) s (i + 1)
+  -- b is the byte behind k others from i on
+  module _ {b : ℕ} (read : b ≡ byte_at s (i + k)) (h : k < length w) where
+    pub word_next : b ≡ get_or w k 0 → word_at t (drop k w) s (i + k) ≡ word_at t (drop (k + 1) w) s (i + (k + 1))
     unfolding word_at
-    word_next e = rw (add-one k, drop-cons w k 0 h, ← read, eq-eqb b _ e)
+    word_next e =
+        let next : i + suc k ≡ i + k + 1 = omega arith in rw (add-one k, drop-cons w k 0 h, ← read, eq-eqb b _ e, next)
 
-    pub word_stop : (b ≡ get_or w k 0 → ⊥) → word_at t (drop k w) s i ≡ unexpected s i
+    pub word_stop : (b ≡ get_or w k 0 → ⊥) → word_at t (drop k w) s (i + k) ≡ unexpected s (i + k)
     unfolding word_at
     word_stop n = rw (drop-cons w k 0 h, ← read, ne_eqb b _ n)
 
-  pub word_end : length w ≤ k → word_at t (drop k w) s i ≡ parsed t i
+  pub word_end : k ≡ length w → word_at t (drop k w) s (i + k) ≡ parsed t (i + length w)
   unfolding word_at
-  word_end h = rw (drop_of_length-le w h)
-
--- the number at i that has digits alone, where a minus stands at i, and where none does
-module _ (s : List ℕ) (i : ℕ) {b r : ℕ} (read : b ≡ byte_at s i) where
-  pub minus_read : b ≡ 0x2D → r ≡ digits_from s i (i + 1) → r ≡ integer_end s i
-  unfolding minus_end
-  minus_read q e = rw (← read, eq-eqb b 0x2D q) e
-
-  pub no_minus : (b ≡ 0x2D → ⊥) → r ≡ digits_from s i i → r ≡ integer_end s i
-  unfolding minus_end
-  no_minus n e = rw (← read, ne_eqb b 0x2D n) e
+  word_end h = let l : length w ≤ k = omega arith in rw (drop_of_length-le w l, h)
 
 -- a string, of which x is where it ends
 module _ (s : List ℕ) (i : ℕ) {x : Reading ℕ} (read : x ≡ string_at s i) where

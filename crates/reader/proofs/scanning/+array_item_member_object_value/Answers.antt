@@ -2,7 +2,6 @@ use mathlib.Core.Path.{◌≡◌, ap}
 use Rattle.std.specs.Prelude.{Ok}
 use Rattle.std.proofs.lemmas.Result.{err_from_is_err_and}
 use native.Mathlib.Omega.{arith}
-use lib.ListN.{length-set}
 use borrow.Enum.Refused.{opened}
 use Rattle.tokens.specs.declared.scalars.First.TheVariants.{Object}
 use Rattle.syntax.proofs.Facts.{opens_object}
@@ -14,7 +13,7 @@ use Rattle.reader.proofs.scanning.Objects.{MemberSaid, MemberFollowed, object_em
 use Rattle.reader.proofs.scanning.Objects.{object_ready, object_refused, object_turn}
 use Rattle.reader.proofs.scanning.Members.{NameRead, Named, Valued, name_ready, name_read, name_push, named, told_unnamed, told_bare, name_behind}
 use Rattle.reader.proofs.scanning.Members.{named_ready, named_rows, told_valueless, told_member}
-use Rattle.reader.proofs.scanning.Values.{Opening, IntegerRead, told_deep, told_leaf, told_array, told_object, array_opens, object_opens, leaf_ready}
+use Rattle.reader.proofs.scanning.Values.{Opening, told_deep, told_leaf, told_array, told_object, array_opens, object_opens, leaf_ready}
 use Rattle.reader.proofs.scanning.Values.{integer_fits, told_integer}
 use Rattle.reader.proofs.scanning.+array_item_member_object_value.Goals as goal
 
@@ -133,31 +132,14 @@ array-returns-in-Other t c =
 -- ---- item
 
 pub item-leaf_mark-requires : goal.item-leaf_mark-requires
-item-leaf_mark-requires t c =
-    let item-integer : IntegerRead c.args.text.now c.args.heads.now c.args.marks.now c.args.depth c.args.row c.args.at c.integer_end-end.result =
-    record { ready = c.requires; ends = c.integer_end-end.ensures; some = c.if-end-at.true } in
-    rw c.from.ensures (integer_fits item-integer).0
-
-pub item-offset_bounds-marks-row : goal.item-offset_bounds-marks-row
-item-offset_bounds-marks-row t c =
-    let item-integer : IntegerRead c.args.text.now c.args.heads.now c.args.marks.now c.args.depth c.args.row c.args.at c.integer_end-end.result =
-    record { ready = c.requires; ends = c.integer_end-end.ensures; some = c.if-end-at.true } in
-    omega (arith, (integer_fits item-integer).1)
+item-leaf_mark-requires t c = rw c.from.ensures (integer_fits c.requires c.integer_end.ensures c.in-Some.is).0
 
 pub item-bounds-marks-row : goal.item-bounds-marks-row
-item-bounds-marks-row t c =
-    let item-integer : IntegerRead c.args.text.now c.args.heads.now c.args.marks.now c.args.depth c.args.row c.args.at c.integer_end-end.result =
-    record { ready = c.requires; ends = c.integer_end-end.ensures; some = c.if-end-at.true } in
-    (integer_fits item-integer).1
+item-bounds-marks-row t c = (integer_fits c.requires c.integer_end.ensures c.in-Some.is).1
 
-pub item-shape_of-marks-then-end-at : goal.item-shape_of-marks-then-end-at
-item-shape_of-marks-then-end-at t c = simp length-set
-
-pub item-returns-then-end-at : goal.item-returns-then-end-at
-item-returns-then-end-at t c =
-    let item-integer : IntegerRead c.args.text.now c.args.heads.now c.args.marks.now c.args.depth c.args.row c.args.at c.integer_end-end.result =
-    record { ready = c.requires; ends = c.integer_end-end.ensures; some = c.if-end-at.true } in
-    told_integer item-integer (rw c.from.ensures at c.leaf_mark.ensures)
+pub item-returns-in-Some : goal.item-returns-in-Some
+item-returns-in-Some t c =
+    told_integer c.requires c.integer_end.ensures c.in-Some.is (rw c.from.ensures at c.leaf_mark.ensures)
 
 pub item-value-requires : goal.item-value-requires
 item-value-requires t c = (omega arith, (c.requires, record { first = c.first_at-first.ensures }))

@@ -1,6 +1,5 @@
 -- `reader::scanning::leaf` meets its contract: what `scalar` answers, and the mark that is kept of it.
 use native.Mathlib.Omega.{arith}
-use lib.ListN.{length-set}
 use Rattle.std.proofs.lemmas.Result.{err_from_is_err_and}
 use Rattle.reader.proofs.scanning.Leaves.{leaf_read, leaf_broken, leaf_fits, leaf_noted}
 use Rattle.reader.proofs.scanning.leaf.Goals as goal

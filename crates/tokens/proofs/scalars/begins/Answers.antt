@@ -1,8 +1,7 @@
 -- `tokens::scalars::begins` meets its contract: the range of digits, then each arm by its byte.
 use mathlib.Core.Path.{sym}
 use native.Mathlib.Omega.{arith}
-use borrow.Author.Tests.{ne_eqb}
-use Rattle.chars.proofs.Facts.{beside}
+use Rattle.std.proofs.lemmas.Bool.Decides.{nat_tests}
 use Rattle.tokens.specs.Scalars.{first_of}
 use Rattle.tokens.proofs.scalars.Laws.{number_digit}
 use Rattle.tokens.proofs.scalars.begins.Goals as goal
@@ -42,17 +41,4 @@ returns-in-116 c = rw c.in-116.is
 
 pub returns-in_default-b : goal.returns-in_default-b
 unfolding first_of
-returns-in_default-b c =
-    rw (
-      beside 0x30 0x39 c.args.b (elim c.in_default.branch [
-        | in_default-via-then-b-lt48 w ↦ λ l. omega arith
-        | in_default-via-else-b-lt48+else-b-lt58 w ↦ λ l. omega arith
-      ]),
-      ne_eqb c.args.b 0x22 c.in_default-b.in_default-b-own.rest.0.0.0.0.0.0.1,
-      ne_eqb c.args.b 0x5B c.in_default-b.in_default-b-own.rest.0.0.0.0.0.1,
-      ne_eqb c.args.b 0x7B c.in_default-b.in_default-b-own.rest.0.0.0.0.1,
-      ne_eqb c.args.b 0x2D c.in_default-b.in_default-b-own.rest.0.0.0.1,
-      ne_eqb c.args.b 0x6E c.in_default-b.in_default-b-own.rest.0.0.1,
-      ne_eqb c.args.b 0x66 c.in_default-b.in_default-b-own.rest.0.1,
-      ne_eqb c.args.b 0x74 c.in_default-b.in_default-b-own.rest.1,
-    )
+returns-in_default-b c = grind (arith, nat_tests)

@@ -5,20 +5,20 @@ use lib.ListN.{length}
 use Rattle.writer.proofs.characters.Laws.{by_short, by_long, by_utf8, utf8_one, utf8_two, utf8_three, utf8_four}
 use Rattle.writer.proofs.characters.char_len.Goals as goal
 
-pub returns-then-letter-ne0 : goal.returns-then-letter-ne0
-returns-then-letter-ne0 c = sym (ap length (by_short _ (omega arith)))
+pub returns-in-Some : goal.returns-in-Some
+returns-in-Some c = sym (ap length (by_short _ (sym c.letter.ensures ∙ c.in-Some.is)))
 
-pub returns-then-c-lt32 : goal.returns-then-c-lt32
-returns-then-c-lt32 c = sym (ap length (by_long _ (omega arith) (omega arith)))
+pub returns-in-0-to-31 : goal.returns-in-0-to-31
+returns-in-0-to-31 c = sym (ap length (by_long _ (cc) (omega arith)))
 
-pub returns-then-c-lt128 : goal.returns-then-c-lt128
-returns-then-c-lt128 c = sym (ap length (by_utf8 _ (omega arith) (omega arith) ∙ utf8_one _ (omega arith)))
+pub returns-in-32-to-127 : goal.returns-in-32-to-127
+returns-in-32-to-127 c = sym (ap length (by_utf8 _ (cc) (omega arith) ∙ utf8_one _ (omega arith)))
 
-pub returns-then-c-lt2048 : goal.returns-then-c-lt2048
-returns-then-c-lt2048 c = sym (ap length (by_utf8 _ (omega arith) (omega arith) ∙ utf8_two _ (omega arith) (omega arith)))
+pub returns-in-128-to-2047 : goal.returns-in-128-to-2047
+returns-in-128-to-2047 c = sym (ap length (by_utf8 _ (cc) (omega arith) ∙ utf8_two _ (omega arith) (omega arith)))
 
-pub returns-then-c-lt65536 : goal.returns-then-c-lt65536
-returns-then-c-lt65536 c = sym (ap length (by_utf8 _ (omega arith) (omega arith) ∙ utf8_three _ (omega arith) (omega arith)))
+pub returns-in-2048-to-65535 : goal.returns-in-2048-to-65535
+returns-in-2048-to-65535 c = sym (ap length (by_utf8 _ (cc) (omega arith) ∙ utf8_three _ (omega arith) (omega arith)))
 
-pub returns : goal.returns
-returns c = sym (ap length (by_utf8 _ (omega arith) (omega arith) ∙ utf8_four _ (omega arith)))
+pub returns-in_default : goal.returns-in_default
+returns-in_default c = sym (ap length (by_utf8 _ (cc) (omega arith) ∙ utf8_four _ (omega arith)))

@@ -1,0 +1,16 @@
+-- `Entry::of` meets its contract: the entry by which kind of mark it is.
+use Rattle.std.proofs.Common.{rules}
+use Rattle.marks.specs.Marks.{mark_entry, is_name}
+use Rattle.marks.proofs.filling.Entry.of.Goals as goal
+
+pub returns-then-first-last : goal.returns-then-first-last
+unfolding mark_entry is_name
+returns-then-first-last c = search rules
+
+pub returns-then-rows-eq0 : goal.returns-then-rows-eq0
+unfolding mark_entry is_name
+returns-then-rows-eq0 c = search rules
+
+pub returns : goal.returns
+unfolding mark_entry is_name
+returns c = search rules
