@@ -23,4 +23,4 @@ pub shape_of-out : goal.shape_of-out
 shape_of-out c = puts_length c.loop-character.invariant.puts
 
 pub returns : goal.returns
-returns c = naming_end c.loop-character.invariant (sym c.character_at.ensures ∙ c.in-None.is)
+returns c = naming_end c.loop-character.invariant (sym c.character_at.ensures ∙ c.in_default.is)
