@@ -39,24 +39,6 @@ pub fn string_end(text: &[u8], at: usize) -> Scan
     }
 }
 
-// Whether two names have the same bytes.
-fn equal(a: &[u8], b: &[u8]) -> bool
-    ensures { result ≡ same a.now b.now }
-{
-    let n = a.len();
-    if b.len() != n {
-        return false;
-    }
-    let mut i = 0;
-    while i < n {
-        if a[i] != b[i] {
-            return false;
-        }
-        i += 1;
-    }
-    true
-}
-
 // Whether two names have the same characters, compared one by one.
 // It is called in two places, so that the compiler keeps it out of `same_name`, whose tests of bytes then stand in its callers.
 fn same_characters(a: &[u8], b: &[u8]) -> bool
@@ -108,7 +90,7 @@ pub fn same_name(a: &[u8], b: &[u8]) -> bool
         }
         return same_characters(a, b);
     }
-    if equal(a, b) {
+    if a == b {
         return true;
     }
     same_characters(a, b)

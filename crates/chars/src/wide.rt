@@ -1,45 +1,44 @@
 // Runs of characters that have several bytes in UTF-8.
-ghost use Rattle.std.specs.Prelude.{◌≡◌, ◌≤◌, length};
+ghost use Rattle.std.specs.Prelude.{◌≡◌, ◌≤◌};
 ghost use Rattle.chars.specs.Strings.{string_at};
 ghost use Rattle.chars.specs.Wide.{WideStep};
 
 use crate::bytes::{highest, lowest, peek, six_at};
 
-// The place behind the character of several bytes at a place; the place itself where none stands there.
-fn wide_end(text: &[u8], at: usize) -> usize
-    requires { at ≤ length text.now }
+// The place behind the character of several bytes at a place, where one stands there.
+fn wide_end(text: &[u8], at: usize) -> Option<usize>
     ensures { WideStep text.now at result }
 {
     let b = peek(text, at);
     match b {
         0xc2..=0xdf => {
             if six_at(text, at + 1, 0x80, 0xbf) > 63 {
-                return at;
+                return None;
             }
-            at + 2
+            Some(at + 2)
         }
         0xe0..=0xef => {
             if six_at(text, at + 1, lowest(b), highest(b)) > 63 {
-                return at;
+                return None;
             }
             if six_at(text, at + 2, 0x80, 0xbf) > 63 {
-                return at;
+                return None;
             }
-            at + 3
+            Some(at + 3)
         }
         0xf0..=0xf4 => {
             if six_at(text, at + 1, lowest(b), highest(b)) > 63 {
-                return at;
+                return None;
             }
             if six_at(text, at + 2, 0x80, 0xbf) > 63 {
-                return at;
+                return None;
             }
             if six_at(text, at + 3, 0x80, 0xbf) > 63 {
-                return at;
+                return None;
             }
-            at + 4
+            Some(at + 4)
         }
-        _ => at,
+        _ => None,
     }
 }
 
@@ -48,11 +47,7 @@ pub fn wides(text: &[u8], at: usize) -> usize
     ensures { (at ≤ result) × (string_at text.now result ≡ string_at text.now at) }
 {
     let mut i = at;
-    while i < text.len() {
-        let next = wide_end(text, i);
-        if next == i {
-            return i;
-        }
+    while let Some(next) = wide_end(text, i) {
         i = next;
     }
     i

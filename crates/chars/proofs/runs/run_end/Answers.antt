@@ -1,23 +1,17 @@
--- `run_end` meets its contract: among the bytes from `at` on, `position` finds the first that does not pass.
-use Rattle.std.proofs.Common.{rules}
-use Rattle.std.proofs.lemmas.Iterator.{YieldsList-from_slice}
-use Rattle.std.proofs.lemmas.Iterator.Search.{position_from_yields_List}
-use mathlib.Core.Bool.{not}
-use borrow.Author.Tests.{tests}
-use Rattle.chars.proofs.runs.Laws.{run_behind, run_found, run_whole}
+use mathlib.Core.Path.{sym, ◌∙◌}
+use native.Mathlib.Omega.{arith}
+use Rattle.chars.proofs.runs.Laws.{run_end, run_over, run_left}
 use Rattle.chars.proofs.runs.run_end.Goals as goal
 
-pub returns-in-Some-position : goal.returns-in-Some-position
-returns-in-Some-position g c = λ p told.
-    run_found p _ _ c.in-Some.ensures.lookup.0.0 c.in-Some.ensures.lookup.0.2
-    (position_from_yields_List (λ b. not (p b)) _ _ _ c.position.ensures.ran (YieldsList-from_slice _ c.iter.ensures.rest) (λ x b q k. search (rules, tests)))
-    c.in-Some-position.is
+pub returns-then-not-passes : goal.returns-then-not-passes
+returns-then-not-passes g c = λ p told.
+    sym (c.loop-i.invariant.1 p told ∙ run_left p _ _ (told _ _ c.passes.ensures) (rw c.if-not-passes.true))
 
-pub returns-in-Some : goal.returns-in-Some
-returns-in-Some g c = λ p told.
-    run_whole p _ _ c.in-Some.ensures.lookup.0.0 c.in-Some.ensures.lookup.0.2
-    (position_from_yields_List (λ b. not (p b)) _ _ _ c.position.ensures.ran (YieldsList-from_slice _ c.iter.ensures.rest) (λ x b q k. search (rules, tests)))
-    c.in-None-position.is
+pub loop-i-preserved : goal.loop-i-preserved
+loop-i-preserved g c =
+    (omega arith, λ p told. c.loop-i.invariant.1 p told ∙ run_over p _ _ (told _ _ c.passes.ensures) (omega arith) (rw c.if-not-passes.false))
 
 pub returns : goal.returns
-returns g c = λ p told. run_behind p _ _ c.in-None.ensures.lookup.0
+returns g c = λ p told.
+    let ended = run_end p c.args.text.now c.loop-i.i (omega arith) in
+    rw c.max.ensures (omega (arith, c.loop-i.invariant.1 p told, ended))

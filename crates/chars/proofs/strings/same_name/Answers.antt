@@ -10,5 +10,5 @@ returns-then-is_plain-2 c =
     sym (plain_apart _ _ c.peek-x.ensures c.peek-y.ensures c.if-x-y.true
     (sym c.is_plain.ensures ∙ c.if-is_plain.true) (sym c.is_plain-then-is_plain.ensures ∙ c.if-is_plain-2.true))
 
-pub returns-then-equal : goal.returns-then-equal
-returns-then-equal c = sym (same_names _ _ (sym c.equal.ensures ∙ c.if-equal.true))
+pub returns-then-eq : goal.returns-then-eq
+returns-then-eq c = sym (same_names _ _ (sym c.eq.ensures ∙ c.if-eq.true))

@@ -5,8 +5,8 @@ use lib.ListN.{length}
 use Rattle.chars.specs.Strings.{string_at}
 use Rattle.chars.proofs.wide.wides.Given as goal
 
-abbrev pub invariant-loop-i : goal.invariant-loop-i
-invariant-loop-i l = (l.at ≤ l.i) × (string_at l.text l.i ≡ string_at l.text l.at)
+abbrev pub invariant-loop-next : goal.invariant-loop-next
+invariant-loop-next l = (l.at ≤ l.i) × (string_at l.text l.i ≡ string_at l.text l.at)
 
-abbrev pub decreases-loop-i : goal.decreases-loop-i
-decreases-loop-i l = length l.text - l.i
+abbrev pub decreases-loop-next : goal.decreases-loop-next
+decreases-loop-next l = length l.text - l.i
