@@ -54,16 +54,15 @@ fn literal(text: &[u8], at: usize, word: &[u8], kind: u32) -> Token
     requires { at < length text.now }
     ensures { (k : Kind) → kind ≡ kind_number k → result ≡ token_of (word_at k word.now text.now at) }
 {
-    let mut i = at;
-    let mut k: usize = 0;
-    while k < word.len() {
-        if peek(text, i) != word[k] {
-            return unexpected(text, i);
+    for (k, b) in word.iter().enumerate() {
+        if peek(text, at + k) != *b {
+            return unexpected(text, at + k);
         }
-        i += 1;
-        k += 1;
     }
-    Token::Taken { kind, end: i }
+    Token::Taken {
+        kind,
+        end: at + word.len(),
+    }
 }
 
 // The string whose opening quote stands at a place.

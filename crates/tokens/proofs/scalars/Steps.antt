@@ -23,20 +23,23 @@ use Rattle.tokens.specs.declared.scalars.First.{First}
 use Rattle.tokens.specs.declared.scalars.First.TheVariants.{Array, Object, Quote, Number, LetterN, LetterF, LetterT, Other}
 use Rattle.tokens.specs.contracts.scalars.First.{the_type}
 
+-- the rest of a word from its kth byte on, k bytes behind i
 module _ (t : Kind) (w s : List ℕ) (i k : ℕ) where
-  -- b is the byte at i
-  module _ {b : ℕ} (read : b ≡ byte_at s i) (h : k < length w) where
-    pub word_next : b ≡ get_or w k 0 → word_at t (drop k w) s i ≡ word_at t (drop (k + 1) w) s (i + 1)
+  -- b is the byte there
+  module _ {b : ℕ} (read : b ≡ byte_at s (i + k)) (h : k < length w) where
+    pub word_next : b ≡ get_or w k 0 → word_at t (drop k w) s (i + k) ≡ word_at t (drop (k + 1) w) s (i + (k + 1))
     unfolding word_at
-    word_next e = rw (add-one k, drop-cons w k 0 h, ← read, eq-eqb b _ e)
+    word_next e =
+        let z : i + (k + 1) ≡ i + k + 1 = omega arith in rw (z, add-one k, drop-cons w k 0 h, ← read, eq-eqb b _ e)
 
-    pub word_stop : (b ≡ get_or w k 0 → ⊥) → word_at t (drop k w) s i ≡ unexpected s i
+    pub word_stop : (b ≡ get_or w k 0 → ⊥) → word_at t (drop k w) s (i + k) ≡ unexpected s (i + k)
     unfolding word_at
     word_stop n = rw (drop-cons w k 0 h, ← read, ne_eqb b _ n)
 
-  pub word_end : length w ≤ k → word_at t (drop k w) s i ≡ parsed t i
+  pub word_end : length w ≤ k → k ≤ length w → word_at t (drop k w) s (i + k) ≡ parsed t (i + length w)
   unfolding word_at
-  word_end h = rw (drop_of_length-le w h)
+  word_end h l =
+      let z : k ≡ length w = omega arith in rw (drop_of_length-le w h, z)
 
 -- the number at i that has digits alone, where a minus stands at i, and where none does
 module _ (s : List ℕ) (i : ℕ) {b r : ℕ} (read : b ≡ byte_at s i) where

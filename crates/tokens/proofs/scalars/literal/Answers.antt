@@ -1,18 +1,14 @@
-use mathlib.Core.Path.{refl, ◌∙◌}
 use native.Mathlib.Omega.{arith}
+use mathlib.Core.Path.{◌∙◌}
 use Rattle.tokens.proofs.scalars.Steps.{word_next, word_stop, word_end}
 use Rattle.tokens.proofs.scalars.literal.Goals as goal
 
-pub loop-k-init : goal.loop-k-init
-loop-k-init c = (omega arith, omega arith, λ t. refl)
-
-pub returns-then-peek-word : goal.returns-then-peek-word
-returns-then-peek-word c =
-    λ t e. rw (c.loop-k.invariant.2 t, word_stop t _ _ _ _ c.peek.ensures c.loop-k-test.true c.if-peek-word.true) c.unexpected.ensures
+pub returns-then-peek-b : goal.returns-then-peek-b
+returns-then-peek-b c =
+    λ t e. rw (c.loop-k.invariant t, word_stop t _ _ _ _ c.peek.ensures c.loop-k-test.true c.if-peek-b.true) c.unexpected.ensures
 
 pub loop-k-preserved : goal.loop-k-preserved
-loop-k-preserved c =
-    (omega arith, omega arith, λ t. c.loop-k.invariant.2 t ∙ word_next t _ _ _ _ c.peek.ensures c.loop-k-test.true c.if-peek-word.false)
+loop-k-preserved c = λ t. c.loop-k.invariant t ∙ word_next t _ _ _ _ c.peek.ensures c.loop-k-test.true c.if-peek-b.false
 
 pub returns : goal.returns
-returns c = λ t e. rw (c.loop-k.invariant.2 t, word_end t _ _ _ _ c.loop-k-test.false, e)
+returns c = λ t e. rw (c.loop-k.invariant t, word_end t _ _ _ _ c.loop-k-test.false (omega arith), e)
