@@ -8,7 +8,7 @@ ghost use Rattle.samples.specs.Writing.{CountsFields, CountsNames, LettersReady,
 
 use crate::pieces::{write_apart, write_bytes};
 use crate::values::write_fields;
-use chars::{Step, char_at, peek};
+use chars::{Step, char_at};
 use definitions::{Generic, generic_at, type_at};
 use rows::{between, find, row_at};
 
@@ -17,15 +17,13 @@ fn begins(letters: &[u8], name: &[u8]) -> bool
     ensures { result ≡ beginsWith letters.now (characters name.now) }
 {
     let mut i = 0;
-    let mut k = 0;
-    while k < letters.len() {
+    for letter in letters {
         match char_at(name, i) {
             Step::Char { value, next } => {
-                if value != peek(letters, k) as u32 {
+                if value != *letter as u32 {
                     return false;
                 }
                 i = next;
-                k += 1;
             }
             _ => {
                 return false;

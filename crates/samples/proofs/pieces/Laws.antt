@@ -1,58 +1,24 @@
--- Copied: how many of some bytes are written. Then the name of a member, and the values that stand for type names.
-use Prim.Native.Nat.{ℕ, ◌+◌, ◌≤◌, ◌<◌}
+-- The name of a member, and the values that stand for type names.
+use Prim.Native.Nat.{ℕ, ◌+◌, ◌≤◌}
 use mathlib.Core.Path.{◌≡◌, refl, sym, ap, subst}
 use mathlib.Core.List.{List, [], ◌∷◌, ◌++◌}
 use native.Mathlib.Omega.{arith}
-use native.Mathlib.Nat.{sub-zero}
 use lib.ListN.{length, set, length-append}
-use lib.Seq.{take-length}
 use denote.Enum.Declared.{tag_of}
 use types.Run.{OneOf, miss}
 use Rattle.model.specs.Text.{text}
-use Rattle.chars.specs.Bytes.{byte_at}
-use Rattle.chars.specs.Strings.{part}
 use Rattle.tokens.specs.Spelling.{IsQuoted}
-use Rattle.tokens.proofs.Facts.{quoted_characters, part_one, part_join}
+use Rattle.tokens.proofs.Facts.{quoted_characters}
 use Rattle.syntax.specs.Grammar.{name_of}
 use Rattle.writer.specs.Spell.{spell_string, spell}
 use Rattle.writer.specs.Tokens.{string_end, string_bytes}
-use Rattle.writer.proofs.Facts.{string-end, Wrote, wrote_none, wrote_length}
+use Rattle.writer.proofs.Facts.{string-end}
 use Rattle.comparison.specs.Carrying.{type_of}
 use Rattle.definitions.specs.declared.types.TypeName.{TypeName}
 use Rattle.definitions.specs.declared.types.TypeName.TheVariants.{Json, Schema, Float, Integer, Text, Boolean, DateTime, Unknown}
 use Rattle.definitions.specs.contracts.types.TypeName.{the_type}
-use Rattle.samples.proofs.Lent.{wrote, wrote_as, Lent, lent, lent_last}
+use Rattle.samples.proofs.Lent.{Lent, lent_last}
 use Rattle.samples.specs.Writing.{Writes, plain_by, apart_by, NameReady, NameWritten}
-
--- the first i of the bytes are written
-pub record Copied (bytes before : List ℕ) (i : ℕ) (out : List ℕ) : Type 0 where
-  pub within : i ≤ length bytes
-  pub wrote : Wrote before i out (part bytes 0 i)
-
-module _ {bytes before : List ℕ} where
-  pub copied_none : Copied bytes before 0 before
-  copied_none = record { within = omega arith; wrote = wrote_none before }
-
-  module _ {i : ℕ} {out : List ℕ} (g : Copied bytes before i out) where
-    pub copied_all : length bytes ≤ i → Writes bytes i before out
-    copied_all l =
-        let e : i ≡ length bytes = omega (arith, g.within) in
-        let w : part bytes 0 i ≡ bytes = rw (e, sub-zero) (take-length bytes) in
-        wrote_as g.wrote (sym w)
-
-    module _ (room : length bytes ≤ length before) where
-      pub copied_length : length out ≡ length before
-      copied_length = wrote_length g.wrote (omega (arith, g.within))
-
-      -- one byte more
-      one_more : i < length bytes → part bytes 0 i ++ (byte_at bytes i ∷ []) ≡ part bytes 0 (i + 1)
-      one_more l = rw (← (part_one bytes i l)) (part_join bytes 0 i (i + 1) (omega arith) (omega arith))
-
-      pub copied_next : i < length bytes → Copied bytes before (i + 1) (set out i (byte_at bytes i))
-      copied_next l = record {
-        within = omega arith;
-        wrote = wrote (lent_last (lent {more = 1} g.wrote (omega arith)) (omega arith) (byte_at bytes i) (sym (one_more l)));
-      }
 
 -- ---- names
 
