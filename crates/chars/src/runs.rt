@@ -7,10 +7,9 @@ pub fn run_end<F: Fn(u8) -> bool>(text: &[u8], at: usize, passes: F) -> usize
     requires { F.IsAlwaysCallable passes }
     ensures { (p : ℕ → Bool) → Answers (F.post passes) p → result ≡ run p text.now at }
 {
-    for i in at..text.len() {
-        if !passes(text[i]) {
-            return i;
-        }
+    let mut i = at;
+    while i < text.len() && passes(text[i]) {
+        i += 1;
     }
-    at.max(text.len())
+    i
 }

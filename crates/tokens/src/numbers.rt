@@ -10,10 +10,7 @@ use chars::{peek, run_end};
 fn is_digit(b: u8) -> bool
     ensures { result ≡ is_digit b }
 {
-    match b {
-        b'0'..=b'9' => true,
-        _ => false,
-    }
+    b.is_ascii_digit()
 }
 
 // The place behind the digits at a place.

@@ -1,17 +1,16 @@
 use mathlib.Core.Path.{sym, ◌∙◌}
-use native.Mathlib.Omega.{arith}
-use Rattle.chars.proofs.runs.Laws.{run_end, run_over, run_left}
+use Rattle.chars.proofs.runs.Laws.{run_end, run_next, run_stop}
 use Rattle.chars.proofs.runs.run_end.Goals as goal
-
-pub returns-then-not-passes : goal.returns-then-not-passes
-returns-then-not-passes g c = λ p told.
-    sym (c.loop-i.invariant.1 p told ∙ run_left p _ _ (told _ _ c.passes.ensures) (rw c.if-not-passes.true))
+use Rattle.chars.proofs.runs.run_end.Goals.{then-loop-i-test+else-passes, else-loop-i-test}
 
 pub loop-i-preserved : goal.loop-i-preserved
-loop-i-preserved g c =
-    (omega arith, λ p told. c.loop-i.invariant.1 p told ∙ run_over p _ _ (told _ _ c.passes.ensures) (omega arith) (rw c.if-not-passes.false))
+loop-i-preserved g c = λ p told.
+    c.loop-i.invariant p told ∙ run_next p _ _ c.loop-i-test.true (sym (told _ _ c.passes.ensures) ∙ c.if-passes.true)
 
 pub returns : goal.returns
 returns g c = λ p told.
-    let ended = run_end p c.args.text.now c.loop-i.i (omega arith) in
-    rw c.max.ensures (omega (arith, c.loop-i.invariant.1 p told, ended))
+    elim c.loop-i-test.branch [
+      | then-loop-i-test+else-passes w ↦
+          sym (c.loop-i.invariant p told ∙ run_stop p _ _ (sym (told _ _ w.passes.ensures) ∙ w.if-passes.false))
+      | else-loop-i-test w ↦ sym (c.loop-i.invariant p told ∙ run_end p _ _ w.loop-i-test.false)
+    ]
