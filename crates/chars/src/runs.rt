@@ -7,11 +7,9 @@ pub fn run_end<F: Fn(u8) -> bool>(text: &[u8], at: usize, passes: F) -> usize
     requires { F.IsAlwaysCallable passes }
     ensures { (p : ℕ → Bool) → Answers (F.post passes) p → result ≡ run p text.now at }
 {
-    match text.get(at..) {
-        Some(rest) => match rest.iter().position(|b| !passes(*b)) {
-            Some(length) => at + length,
-            None => text.len(),
-        },
-        None => at,
+    let mut i = at;
+    while i < text.len() && passes(text[i]) {
+        i += 1;
     }
+    i
 }

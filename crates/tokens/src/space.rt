@@ -4,6 +4,7 @@ ghost use Rattle.tokens.specs.Space.{is_space, skip};
 
 use chars::run_end;
 
+#[tactic(auto, unfolding(crate::specs::Space::is_space))]
 fn is_space(b: u8) -> bool
     ensures { result ≡ is_space b }
 {

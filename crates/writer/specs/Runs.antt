@@ -1,7 +1,7 @@
 -- For private contracts: runs of bytes that are copied as they stand.
-use Rattle.std.specs.Prelude.{ℕ, Bool, ◌+◌, ◌≤◌, not, ◌||◌, List, eqb}
+use Rattle.std.specs.Prelude.{ℕ, Bool, not, ◌||◌, List, eqb}
 use Rattle.tokens.specs.Space.{is_space}
-use Rattle.chars.specs.Runs.{run, Answers}
+use Rattle.chars.specs.Runs.{run}
 
 -- a byte of a string that neither ends it nor begins an escape
 unfoldable pub is_ordinary : ℕ → Bool
@@ -20,7 +20,3 @@ is_atom b = not (is_space b || eqb b 0x22 || is_structural b)
 
 abbrev pub atom_end : List ℕ → ℕ → ℕ
 atom_end s i = run is_atom s i
-
--- n bytes are room for the run at i of the bytes that pass, by what is told of each
-abbrev pub RoomForRun : (ℕ → Bool → Type 0) → List ℕ → (i n : ℕ) → Type 0
-RoomForRun tells s i n = (p : ℕ → Bool) × Answers tells p × (run p s i ≤ i + n)

@@ -3,22 +3,25 @@ ghost use Rattle.std.specs.Prelude.{◌≡◌, ◌+◌, ◌≤◌, ℕ, Bool, le
 ghost use Rattle.chars.specs.Runs.{run, Answers};
 ghost use Rattle.chars.specs.Strings.{part};
 ghost use Rattle.writer.specs.Compact.{over};
-ghost use Rattle.writer.specs.Runs.{RoomForRun, is_ordinary, is_structural, is_atom, ordinary_end, atom_end};
+ghost use Rattle.writer.specs.Runs.{is_ordinary, is_structural, is_atom, ordinary_end, atom_end};
 
 use chars::run_end;
 
+#[tactic(auto, unfolding(crate::specs::Runs::is_ordinary))]
 fn is_ordinary(b: u8) -> bool
     ensures { result ≡ is_ordinary b }
 {
     !matches!(b, b'"' | b'\\')
 }
 
+#[tactic(auto, unfolding(crate::specs::Runs::is_structural))]
 pub fn is_structural(b: u8) -> bool
     ensures { result ≡ is_structural b }
 {
     matches!(b, b'[' | b'{' | b']' | b'}' | b':' | b',')
 }
 
+#[tactic(auto, unfolding(crate::specs::Runs::is_atom, tokens::specs::Space::is_space))]
 fn is_atom(b: u8) -> bool
     ensures { result ≡ is_atom b }
 {
@@ -34,16 +37,21 @@ pub fn ordinary_end(text: &[u8], at: usize) -> usize
 
 // Copies the run of bytes at a place that pass the test, and tells the place behind it.
 fn copy_run<F: Fn(u8) -> bool>(text: &[u8], at: usize, out: &mut [u8], passes: F) -> usize
+    ghost test: { ℕ → Bool }
     requires callable { F.IsAlwaysCallable passes }
-    requires room { RoomForRun (F.post passes) text.now at (length out.old) }
-    ensures value { (p : ℕ → Bool) → Answers (F.post passes) p → result ≡ run p text.now at }
-    ensures out_after { (p : ℕ → Bool) → Answers (F.post passes) p → out.new ≡ over (part text.now at (run p text.now at)) out.old }
+    requires answers { Answers (F.post passes) test }
+    requires room { run test text.now at ≤ at + length out.old }
+    ensures value { result ≡ run test text.now at }
+    ensures out_after { out.new ≡ over (part text.now at (run test text.now at)) out.old }
 {
-    let end = run_end(text, at, passes);
-    if let Some(bytes) = text.get(at..end) {
-        out[..bytes.len()].copy_from_slice(bytes);
+    for i in at..text.len() {
+        let b = text[i];
+        if !passes(b) {
+            return i;
+        }
+        out[i - at] = b;
     }
-    end
+    at.max(text.len())
 }
 
 // Copies these bytes, and tells the place behind them.

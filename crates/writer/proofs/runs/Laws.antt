@@ -1,18 +1,28 @@
--- A run ends within the text, or where it begins; how many bytes it has.
+-- Copying: the bytes of a run that were passed are copied.
 use Prim.Native.Nat.{ℕ, ◌+◌, ◌-◌, ◌≤◌, ◌<◌, max}
-use mathlib.Core.Path.{◌≡◌}
-use mathlib.Core.Bool.{Bool}
-use mathlib.Core.Logic.{◌⊎◌, ⊎_elim}
-use mathlib.Core.List.{List, []}
+use mathlib.Core.Path.{◌≡◌, refl, sym, ap, ◌∙◌}
+use mathlib.Core.Bool.{Bool, true}
+use mathlib.Core.List.{List}
 use native.Mathlib.Omega.{arith}
-use lib.ListN.{length, length-take, length-drop}
+use lib.ListN.{length, set, length-take, length-drop}
 use lib.Dec.{leb}
 use borrow.Author.Tests.{leb-true, leb-false}
 use Rattle.model.proofs.Basics.{by_test}
+use Rattle.chars.specs.Bytes.{byte_at}
 use Rattle.chars.specs.Runs.{run}
 use Rattle.chars.specs.Strings.{part}
-use Rattle.chars.proofs.Facts.{run_end, run-from, run_within}
-use Rattle.tokens.proofs.Facts.{part_none}
+use Rattle.chars.proofs.Facts.{run_end, run_next, run-from, run_within}
+use Rattle.tokens.proofs.Facts.{part_none, part_one, part_join}
+use Rattle.writer.specs.Compact.{over}
+use Rattle.writer.proofs.Over.{length_over, over_byte}
+
+-- the run from `at` on goes on at i, its bytes up to there are written, and there is room for all of them
+pub record Copying (p : ℕ → Bool) (s : List ℕ) (at : ℕ) (before : List ℕ) (i : ℕ) (out : List ℕ) : Type 0 where
+  pub ahead : at ≤ i
+  pub within : i ≤ max at (length s)
+  pub goes-on : run p s at ≡ run p s i
+  pub holds : out ≡ over (part s at i) before
+  pub room : run p s at ≤ at + length before
 
 pub length_part : (s : List ℕ) (a e : ℕ) → a ≤ e → e ≤ max a (length s) → length (part s a e) ≡ e - a
 length_part s a e l h = simp (length-take, length-drop) (omega arith)
@@ -30,8 +40,38 @@ run_length p s i = length_part s i (run p s i) (run-from p s i) (run_most p s i)
 pub run_room : (p : ℕ → Bool) (s : List ℕ) (i m : ℕ) → length (part s i (run p s i)) ≤ m → run p s i ≤ i + m
 run_room p s i m h = omega (arith, run_length p s i, run-from p s i)
 
--- no bytes stand there that it could have
-pub run_beyond : (p : ℕ → Bool) (s : List ℕ) (i : ℕ) → (run p s i < i) ⊎ (length s < run p s i) → part s i (run p s i) ≡ []
-run_beyond p s i h =
-    let here : run p s i ≡ i = ⊎_elim (λ l. omega (arith, run-from p s i)) (λ l. omega (arith, run_most p s i, run-from p s i)) h in
-    rw here (part_none s i)
+pub copying_none : (p : ℕ → Bool) (s : List ℕ) (at : ℕ) (before : List ℕ) → run p s at ≤ at + length before → Copying p s at before at before
+copying_none p s at before h = record { ahead = omega arith; within = omega arith; goes-on = refl; holds = rw (part_none s at); room = h }
+
+module _ {p : ℕ → Bool} {s : List ℕ} {at : ℕ} {before : List ℕ} {i : ℕ} {out : List ℕ} (g : Copying p s at before i out) where
+  fits : length (part s at i) ≤ length before
+  fits = omega (arith, length_part s at i g.ahead g.within, g.goes-on, run-from p s i)
+
+  pub copying_length : length out ≡ length before
+  copying_length = ap length g.holds ∙ length_over before (part s at i) fits
+
+  -- the run has ended
+  pub copying_done : run p s i ≡ i → (i ≡ run p s at) × (out ≡ over (part s at (run p s at)) before)
+  copying_done e = let z : run p s at ≡ i = g.goes-on ∙ e in (sym z, rw z g.holds)
+
+  -- or goes on
+  module _ (l : i < length s) (t : p (byte_at s i) ≡ true) where
+    -- there is room for the next byte
+    pub copying_room : i - at < length out
+    copying_room = omega (arith, copying_length, g.ahead, g.goes-on, run_next p s i l t, run-from p s (i + 1))
+
+    pub copying_next : Copying p s at before (i + 1) (set out (i - at) (byte_at s i))
+    copying_next =
+        let n : i - at ≡ length (part s at i) = sym (length_part s at i g.ahead g.within) in
+        record {
+          ahead = omega (arith, g.ahead);
+          within = omega arith;
+          goes-on = g.goes-on ∙ run_next p s i l t;
+          holds = rw (
+            g.holds,
+            over_byte before (part s at i) (i - at) (byte_at s i) n (omega (arith, copying_room, copying_length)),
+            ← (part_one s i l),
+            part_join s at i (i + 1) g.ahead (omega arith),
+          );
+          room = g.room;
+        }

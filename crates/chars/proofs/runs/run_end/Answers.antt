@@ -1,23 +1,16 @@
--- `run_end` meets its contract: among the bytes from `at` on, `position` finds the first that does not pass.
-use Rattle.std.proofs.Common.{rules}
-use Rattle.std.proofs.lemmas.Iterator.{YieldsList-from_slice}
-use Rattle.std.proofs.lemmas.Iterator.Search.{position_from_yields_List}
-use mathlib.Core.Bool.{not}
-use borrow.Author.Tests.{tests}
-use Rattle.chars.proofs.runs.Laws.{run_behind, run_found, run_whole}
+use mathlib.Core.Path.{sym, ◌∙◌}
+use Rattle.chars.proofs.runs.Laws.{run_end, run_next, run_stop}
 use Rattle.chars.proofs.runs.run_end.Goals as goal
+use Rattle.chars.proofs.runs.run_end.Goals.{then-loop-i-test+else-passes, else-loop-i-test}
 
-pub returns-in-Some-position : goal.returns-in-Some-position
-returns-in-Some-position g c = λ p told.
-    run_found p _ _ c.in-Some.ensures.lookup.0.0 c.in-Some.ensures.lookup.0.2
-    (position_from_yields_List (λ b. not (p b)) _ _ _ c.position.ensures.ran (YieldsList-from_slice _ c.iter.ensures.rest) (λ x b q k. search (rules, tests)))
-    c.in-Some-position.is
-
-pub returns-in-Some : goal.returns-in-Some
-returns-in-Some g c = λ p told.
-    run_whole p _ _ c.in-Some.ensures.lookup.0.0 c.in-Some.ensures.lookup.0.2
-    (position_from_yields_List (λ b. not (p b)) _ _ _ c.position.ensures.ran (YieldsList-from_slice _ c.iter.ensures.rest) (λ x b q k. search (rules, tests)))
-    c.in-None-position.is
+pub loop-i-preserved : goal.loop-i-preserved
+loop-i-preserved g c = λ p told.
+    c.loop-i.invariant p told ∙ run_next p _ _ c.loop-i-test.true (sym (told _ _ c.passes.ensures) ∙ c.if-passes.true)
 
 pub returns : goal.returns
-returns g c = λ p told. run_behind p _ _ c.in-None.ensures.lookup.0
+returns g c = λ p told.
+    elim c.loop-i-test.branch [
+      | then-loop-i-test+else-passes w ↦
+          sym (c.loop-i.invariant p told ∙ run_stop p _ _ (sym (told _ _ w.passes.ensures) ∙ w.if-passes.false))
+      | else-loop-i-test w ↦ sym (c.loop-i.invariant p told ∙ run_end p _ _ w.loop-i-test.false)
+    ]
