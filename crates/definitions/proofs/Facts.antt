@@ -7,7 +7,7 @@ pub use Rattle.definitions.proofs.accepting.Takes.{Takes, Way, accept_way, by_pa
 pub use Rattle.definitions.proofs.definitions.Faults.{fault_code, first_byte, located_first}
 pub use Rattle.definitions.proofs.definitions.Meaning.{Added, added_fine, defined_plain, definition_forgets, forget, some_defined}
 -- what stands under "required" and "optional"
-pub use Rattle.definitions.proofs.definitions.Body.{part_rows_lem, part_rows}
+pub use Rattle.definitions.proofs.definitions.Body.{part_rows}
 -- what a definition is, by its row: a type name, or one member
 pub use Rattle.definitions.proofs.shapes.Laws.{string_type, Under, generic_member, generic_named, has_generic}
 -- what stands inside it
@@ -17,7 +17,7 @@ pub use Rattle.definitions.proofs.shapes.Laws.{in_array, in_map, in-object, fiel
 pub use Rattle.definitions.proofs.shapes.Fields.{same_definition, same_fields, FieldsLeft, fields_none, fields_start, fields_empty}
 pub use Rattle.definitions.proofs.shapes.Fields.{start_rest, behind_rest, fields_end, FieldHere, field_here}
 -- its fields by the rows of its body
-pub use Rattle.definitions.proofs.shapes.Objects.{as_kind, of-kind, object_fields, object_body, body_in, fields_in_lem}
+pub use Rattle.definitions.proofs.shapes.Objects.{as_kind, of-kind, object_fields, object_body, body_in, fields_object, fields_in_lem}
 pub use Rattle.definitions.proofs.shapes.Objects.{find_required, find_optional, required_fields, optional_fields}
 -- definitions that only objects meet
 pub use Rattle.definitions.proofs.shapes.Laws.{objects_by, objects_in}

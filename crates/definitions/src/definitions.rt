@@ -1,152 +1,145 @@
 // What is a definition, and the first fault of a value that is none (01, "Definitions").
 ghost use Rattle.std.specs.Prelude.{◌≡◌};
-ghost use Rattle.rows.specs.Records.{Rowed, PartRow};
-ghost use Rattle.definitions.specs.Definitions.{Defines, DefinesBody, DefinesFields, Shares};
+ghost use Rattle.chars.specs.Strings.{characters};
+ghost use Rattle.rows.specs.Records.{InTable, Rowed, ObjectRow, PartRow};
+ghost use Rattle.definitions.specs.Definitions.{fault_number, fault, kind_fault, PartUnder, Defines, DefinesBody, DefinesFields, Shares};
 
-use crate::types::{Generic, TypeName, generic_name, named_type};
-use chars::same_name;
-use rows::{between, find, row_at};
+use crate::types::{Generic, generic_name, named_type};
+use rows::Tree;
 
-// Codes 10 to 12 with their place; code 0 of a definition.
-#[derive(Clone, Copy)]
+// Why a value is no definition.
+#[derive(Clone, Copy, Debug, PartialEq, Eq)]
+pub enum FaultCode {
+    NoDefinition,
+    UnknownType,
+    SharedName,
+}
+
+impl From<FaultCode> for u32 {
+    ghost from_gives = { λ code n. n ≡ fault_number code };
+
+    // The number of a code in an answer.
+    fn from(code: FaultCode) -> u32 {
+        match code {
+            FaultCode::NoDefinition => 10,
+            FaultCode::UnknownType => 11,
+            FaultCode::SharedName => 12,
+        }
+    }
+}
+
+// A fault: what is wrong, and at which place.
+#[derive(Clone, Copy, Debug, PartialEq, Eq)]
 pub struct Fault {
-    pub code: u32,
+    pub code: FaultCode,
     pub place: u32,
 }
 
 impl Fault {
-    fn none() -> Self
-        ensures { (result.code ≡ 0) × (result.place ≡ 0) }
-    {
-        Self { code: 0, place: 0 }
-    }
-
-    fn at(code: u32, place: u32) -> Self
-        ensures { (result.code ≡ code) × (result.place ≡ place) }
+    fn at(code: FaultCode, place: u32) -> Self
+        ensures { result ≡ fault code place }
     {
         Self { code, place }
     }
 }
 
-// The first name of the members at row `optional` that a member at row `required` has too; row 0 has no members.
-fn first_shared(text: &[u8], table: &[u32], required: usize, optional: usize) -> Fault
-    requires part_row { PartRow text.now table.now required }
-    requires part_row_2 { PartRow text.now table.now optional }
-    ensures { Shares text.now table.now required optional result }
+// That the value at a row is an object.
+fn object_at(tree: Tree, row: usize) -> Result<(), Fault>
+    requires { InTable tree.table.now row }
+    ensures { result ≡ kind_fault tree.entry.table.now row }
 {
-    if required == 0 {
-        return Fault::none();
+    let value = tree.row_at(row);
+    if value.kind != 8 {
+        return Err(Fault::at(FaultCode::NoDefinition, value.first));
     }
-    if optional == 0 {
-        return Fault::none();
+    Ok(())
+}
+
+// The row of the object under a name, given as the bytes between its quotes, in the object at a row, where anything stands there.
+fn part_under(tree: Tree, body: usize, key: &[u8]) -> Result<Option<usize>, Fault>
+    requires { ObjectRow tree.text.now tree.table.now body }
+    ensures { PartUnder tree.entry.text.now tree.entry.table.now body (characters key.now) result }
+{
+    let part = tree.find(body, key);
+    if let Some(row) = part {
+        object_at(tree, row)?;
     }
-    let others = row_at(table, required).children;
-    let mut left = row_at(table, optional).children;
-    let mut row = optional + 1;
-    'names: while left > 0 {
-        let name = row_at(table, row);
-        let key = between(text, name.first, name.end);
-        let mut unseen = others;
-        let mut other = required + 1;
-        while unseen > 0 {
-            let next = row_at(table, other);
-            if same_name(key, between(text, next.first, next.end)) {
-                break 'names;
-            }
-            other = row_at(table, other + 1).next;
-            unseen -= 1;
+    Ok(part)
+}
+
+// The first name of the optional members that a required member has too, by the rows of their objects, where there are any.
+fn first_shared(tree: Tree, required: Option<usize>, optional: Option<usize>) -> Result<(), Fault>
+    requires part_row { PartRow tree.text.now tree.table.now required }
+    requires part_row_2 { PartRow tree.text.now tree.table.now optional }
+    ensures { Shares tree.entry.text.now tree.entry.table.now required optional result }
+{
+    let Some(required) = required else {
+        return Ok(());
+    };
+    let Some(optional) = optional else {
+        return Ok(());
+    };
+    for row in tree.members(optional) {
+        let name = tree.row_at(row);
+        let key = tree.between(name.first, name.end);
+        if tree.find(required, key).is_some() {
+            return Err(Fault::at(FaultCode::SharedName, name.first));
         }
-        row = row_at(table, row + 1).next;
-        left -= 1;
     }
-    if left > 0 {
-        return Fault::at(12, row_at(table, row).first);
-    }
-    Fault::none()
+    Ok(())
 }
 
 // The first fault of the value at a row as a definition.
 #[cycle(define_define_body_define_fields)]
-pub fn define(text: &[u8], table: &[u32], row: usize) -> Fault
-    requires { Rowed text.now table.now row }
-    ensures { Defines text.now table.now row result }
+pub fn define(tree: Tree, row: usize) -> Result<(), Fault>
+    requires { Rowed tree.text.now tree.table.now row }
+    ensures { Defines tree.entry.text.now tree.entry.table.now row result }
 {
-    let value = row_at(table, row);
-    let first = value.first;
+    let value = tree.row_at(row);
     if value.kind == 6 {
-        return match named_type(between(text, first, value.end)) {
-            TypeName::Unknown => Fault::at(11, first),
-            _ => Fault::none(),
+        return match named_type(tree.between(value.first, value.end)) {
+            Some(_) => Ok(()),
+            None => Err(Fault::at(FaultCode::UnknownType, value.first)),
         };
     }
-    if value.kind != 8 {
-        return Fault::at(10, first);
+    if value.kind != 8 || value.children != 1 {
+        return Err(Fault::at(FaultCode::NoDefinition, value.first));
     }
-    if value.children != 1 {
-        return Fault::at(10, first);
-    }
-    let name = row_at(table, row + 1);
-    match generic_name(between(text, name.first, name.end)) {
-        Generic::Array => define(text, table, row + 2),
-        Generic::Map => define(text, table, row + 2),
-        Generic::Object => define_body(text, table, row + 2),
-        Generic::Other => Fault::at(11, name.first),
+    let name = tree.row_at(row + 1);
+    let Some(generic) = generic_name(tree.between(name.first, name.end)) else {
+        return Err(Fault::at(FaultCode::UnknownType, name.first));
+    };
+    match generic {
+        Generic::Array | Generic::Map => define(tree, row + 2),
+        Generic::Object => define_body(tree, row + 2),
     }
 }
 
 // The first fault of the value at a row as the body of an Object.
 #[cycle(define_define_body_define_fields)]
-fn define_body(text: &[u8], table: &[u32], row: usize) -> Fault
-    requires { Rowed text.now table.now row }
-    ensures { DefinesBody text.now table.now row result }
+fn define_body(tree: Tree, row: usize) -> Result<(), Fault>
+    requires { Rowed tree.text.now tree.table.now row }
+    ensures { DefinesBody tree.entry.text.now tree.entry.table.now row result }
 {
-    let body = row_at(table, row);
-    if body.kind != 8 {
-        return Fault::at(10, body.first);
-    }
-    let required = find(text, table, row, b"required");
-    let optional = find(text, table, row, b"optional");
-    if required > 0 {
-        let part = row_at(table, required);
-        if part.kind != 8 {
-            return Fault::at(10, part.first);
-        }
-    }
-    if optional > 0 {
-        let part = row_at(table, optional);
-        if part.kind != 8 {
-            return Fault::at(10, part.first);
-        }
-    }
-    let shared = first_shared(text, table, required, optional);
-    if shared.code != 0 {
-        return shared;
-    }
-    let fault = define_fields(text, table, required);
-    if fault.code != 0 {
-        return fault;
-    }
-    define_fields(text, table, optional)
+    object_at(tree, row)?;
+    let required = part_under(tree, row, b"required")?;
+    let optional = part_under(tree, row, b"optional")?;
+    first_shared(tree, required, optional)?;
+    define_fields(tree, required)?;
+    define_fields(tree, optional)
 }
 
-// The first fault of the definitions under the names of the object at a row; row 0 has no members.
+// The first fault of the definitions under the names of the object at a row, where there is one.
 #[cycle(define_define_body_define_fields)]
-fn define_fields(text: &[u8], table: &[u32], row: usize) -> Fault
-    requires { PartRow text.now table.now row }
-    ensures { DefinesFields text.now table.now row result }
+fn define_fields(tree: Tree, fields: Option<usize>) -> Result<(), Fault>
+    requires { PartRow tree.text.now tree.table.now fields }
+    ensures { DefinesFields tree.entry.text.now tree.entry.table.now fields result }
 {
-    if row == 0 {
-        return Fault::none();
+    let Some(object) = fields else {
+        return Ok(());
+    };
+    for row in tree.members(object) {
+        define(tree, row + 1)?;
     }
-    let mut left = row_at(table, row).children;
-    let mut at = row + 2;
-    while left > 0 {
-        let fault = define(text, table, at);
-        if fault.code != 0 {
-            return fault;
-        }
-        at = row_at(table, at).next + 1;
-        left -= 1;
-    }
-    Fault::none()
+    Ok(())
 }

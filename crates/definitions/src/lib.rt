@@ -7,6 +7,6 @@ mod shapes;
 mod types;
 
 pub use accepting::accept;
-pub use definitions::{Fault, define};
+pub use definitions::{Fault, FaultCode, define};
 pub use shapes::{generic_at, of_objects, type_at};
-pub use types::{Generic, TypeName, generic_name, named_type, takes};
+pub use types::{Generic, TypeName, generic_name, named_type};

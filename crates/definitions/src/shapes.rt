@@ -1,43 +1,40 @@
 // What a definition is, by its row: the type or the generic type that it names (01, "Definitions").
-ghost use Rattle.std.specs.Prelude.{true};
 ghost use Rattle.definitions.specs.Shapes.{DefinedRow, TypeRow, GenericRow, OfObjectsRow};
 
 use crate::types::{Generic, TypeName, generic_name, named_type};
-use rows::{between, row_at};
+use rows::Tree;
 
-// The type that the definition at a row names; of any other definition Unknown.
-pub fn type_at(text: &[u8], table: &[u32], row: usize) -> TypeName
-    requires { DefinedRow text.now table.now row }
-    ensures { TypeRow text.now table.now row result }
+// The type that the definition at a row names, where it is a type name.
+pub fn type_at(tree: Tree, row: usize) -> Option<TypeName>
+    requires { DefinedRow tree.text.now tree.table.now row }
+    ensures { TypeRow tree.entry.text.now tree.entry.table.now row result }
 {
-    let definition = row_at(table, row);
+    let definition = tree.row_at(row);
     if definition.kind != 6 {
-        return TypeName::Unknown;
+        return None;
     }
-    named_type(between(text, definition.first, definition.end))
+    named_type(tree.between(definition.first, definition.end))
 }
 
-// The generic type of the definition at a row; of a type name Other.
-pub fn generic_at(text: &[u8], table: &[u32], row: usize) -> Generic
-    requires { DefinedRow text.now table.now row }
-    ensures { GenericRow text.now table.now row result }
+// The generic type of the definition at a row, where it is no type name.
+pub fn generic_at(tree: Tree, row: usize) -> Option<Generic>
+    requires { DefinedRow tree.text.now tree.table.now row }
+    ensures { GenericRow tree.entry.text.now tree.entry.table.now row result }
 {
-    if row_at(table, row).kind == 6 {
-        return Generic::Other;
+    if tree.row_at(row).kind == 6 {
+        return None;
     }
-    let name = row_at(table, row + 1);
-    generic_name(between(text, name.first, name.end))
+    let name = tree.row_at(row + 1);
+    generic_name(tree.between(name.first, name.end))
 }
 
 // Whether only objects meet the definition at a row.
-pub fn of_objects(text: &[u8], table: &[u32], row: usize) -> bool
-    requires { DefinedRow text.now table.now row }
-    ensures { OfObjectsRow text.now table.now row result }
+pub fn of_objects(tree: Tree, row: usize) -> bool
+    requires { DefinedRow tree.text.now tree.table.now row }
+    ensures { OfObjectsRow tree.entry.text.now tree.entry.table.now row result }
 {
-    match generic_at(text, table, row) {
-        Generic::Array => false,
-        Generic::Map => true,
-        Generic::Object => true,
-        Generic::Other => false,
+    match generic_at(tree, row) {
+        Some(generic) => matches!(generic, Generic::Map | Generic::Object),
+        None => false,
     }
 }

@@ -6,8 +6,8 @@ ghost use Rattle.definitions.specs.Types.{type_name, generic_of, takes_kind};
 
 use chars::same_name;
 
-// The type that a string names.
-#[derive(Clone, Copy)]
+// The types that a string can name.
+#[derive(Clone, Copy, Debug, PartialEq, Eq)]
 pub enum TypeName {
     Json,
     Schema,
@@ -16,74 +16,73 @@ pub enum TypeName {
     Text,
     Boolean,
     DateTime,
-    Unknown,
 }
 
-// The generic type that a member of a definition names.
-#[derive(Clone, Copy)]
+impl TypeName {
+    // Whether the type takes every value of a kind.
+    #[tactic(auto, unfolding(crate::specs::Types::takes_kind))]
+    pub fn takes(self, kind: u32) -> bool
+        ensures { result ≡ takes_kind self kind }
+    {
+        match self {
+            TypeName::Json => true,
+            TypeName::Float => matches!(kind, 4 | 5),
+            TypeName::Integer => kind == 4,
+            TypeName::Text => kind == 6,
+            TypeName::Boolean => matches!(kind, 2 | 3),
+            TypeName::Schema | TypeName::DateTime => false,
+        }
+    }
+}
+
+// The generic types that a member of a definition can name.
+#[derive(Clone, Copy, Debug, PartialEq, Eq)]
 pub enum Generic {
     Array,
     Map,
     Object,
-    Other,
 }
 
-// The type that a string names, as the bytes between its quotes; the commonest first.
-pub fn named_type(name: &[u8]) -> TypeName
+// The type that a string names, as the bytes between its quotes; the commonest first. A test for each word: a table of words would be no plainer.
+pub fn named_type(name: &[u8]) -> Option<TypeName>
     ensures { result ≡ type_name (named_by (characters name.now)) }
 {
-    let name = &name[..];
     if same_name(name, b"String") {
-        return TypeName::Text;
+        return Some(TypeName::Text);
     }
     if same_name(name, b"Integer") {
-        return TypeName::Integer;
+        return Some(TypeName::Integer);
     }
     if same_name(name, b"DateTime") {
-        return TypeName::DateTime;
+        return Some(TypeName::DateTime);
     }
     if same_name(name, b"Boolean") {
-        return TypeName::Boolean;
+        return Some(TypeName::Boolean);
     }
     if same_name(name, b"Float") {
-        return TypeName::Float;
+        return Some(TypeName::Float);
     }
     if same_name(name, b"JSON") {
-        return TypeName::Json;
+        return Some(TypeName::Json);
     }
     if same_name(name, b"Schema") {
-        return TypeName::Schema;
+        return Some(TypeName::Schema);
     }
-    TypeName::Unknown
+    None
 }
 
 // The generic type that a name is.
-pub fn generic_name(name: &[u8]) -> Generic
+pub fn generic_name(name: &[u8]) -> Option<Generic>
     ensures { result ≡ generic_of (characters name.now) }
 {
-    let name = &name[..];
     if same_name(name, b"Array") {
-        return Generic::Array;
+        return Some(Generic::Array);
     }
     if same_name(name, b"Map") {
-        return Generic::Map;
+        return Some(Generic::Map);
     }
     if same_name(name, b"Object") {
-        return Generic::Object;
+        return Some(Generic::Object);
     }
-    Generic::Other
-}
-
-// Whether a type takes every value of a kind.
-pub fn takes(name: TypeName, kind: u32) -> bool
-    ensures { result ≡ takes_kind name kind }
-{
-    match name {
-        TypeName::Json => true,
-        TypeName::Float => kind == 4 || kind == 5,
-        TypeName::Integer => kind == 4,
-        TypeName::Text => kind == 6,
-        TypeName::Boolean => kind == 2 || kind == 3,
-        _ => false,
-    }
+    None
 }

@@ -1,6 +1,6 @@
 -- For private contracts: a row of a table, as the code reads it, and the values that stand at rows.
-use Rattle.std.specs.Prelude.{ℕ, ◌+◌, ◌*◌, ◌≤◌, ◌<◌, ◌≡◌, List, length}
-use Rattle.syntax.specs.Tree.{Node, object, Members, no_member}
+use Rattle.std.specs.Prelude.{ℕ, ◌+◌, ◌*◌, ◌≤◌, ◌≡◌, List, length, Option, Some, None}
+use Rattle.syntax.specs.Tree.{Node, array, object, Nodes, Members, no_member}
 use Rattle.syntax.specs.Rows.{row_words}
 use Rattle.syntax.specs.Holding.{word, Holds, Placed}
 use Rattle.rows.specs.declared.records.Record.{Record}
@@ -32,8 +32,16 @@ pub record ObjectRow (s t : List ℕ) (r : ℕ) : Type 0 where
   pub holds : Holds t r (object first end members)
   pub placed : Placed s (object first end members)
 
--- the members under "required" or "optional", by their row: none at row 0
-pub record PartRow (s t : List ℕ) (r : ℕ) : Type 0 where
+-- an array there
+pub record ArrayRow (s t : List ℕ) (r : ℕ) : Type 0 where
+  pub first : ℕ
+  pub end : ℕ
+  pub elements : Nodes
+  pub holds : Holds t r (array first end elements)
+  pub placed : Placed s (array first end elements)
+
+-- the members under "required" or "optional", by the row of their object, where there is one
+pub record PartRow (s t : List ℕ) (r : Option ℕ) : Type 0 where
   pub members : Members
-  pub absent : r ≡ 0 → members ≡ no_member
-  pub present : 0 < r → (f : ℕ) × (e : ℕ) × Holds t r (object f e members) × Placed s (object f e members)
+  pub absent : r ≡ None → members ≡ no_member
+  pub present : {o : ℕ} → r ≡ Some o → (f : ℕ) × (e : ℕ) × Holds t o (object f e members) × Placed s (object f e members)

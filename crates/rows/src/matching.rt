@@ -3,11 +3,10 @@ ghost use Rattle.std.specs.Prelude.{◌≡◌, true, ◌+◌, ◌≤◌, ◌<◌
 ghost use Rattle.tokens.specs.Spelling.{IsQuoted};
 ghost use Rattle.syntax.specs.Grammar.{name_of};
 ghost use Rattle.syntax.specs.Holding.{word as word_of};
-ghost use Rattle.rows.specs.Records.{ObjectRow};
-ghost use Rattle.rows.specs.Matching.{most_names, bucket_count, Buckets, HasIndex, Indexes, filled, Fills, FillsAll, Matches};
+ghost use Rattle.rows.specs.Records.{InTable, ObjectRow};
+ghost use Rattle.rows.specs.Matching.{most_names, bucket_count, Buckets, HasIndex, Indexes, filled, Fills, Matches};
 
-use crate::finding::between;
-use crate::records::row_at;
+use crate::records::Tree;
 use chars::{hashed_end, same_name};
 
 // How many names an index has room for, in how many buckets.
@@ -22,167 +21,117 @@ pub const FEW_NAMES: u32 = 32;
 pub fn wide(members: u32, names: u32) -> bool
     ensures { result ≡ true → names ≤ most_names }
 {
-    if members < FEW_NAMES {
-        return false;
-    }
-    if names < FEW_NAMES {
-        return false;
-    }
-    names as usize <= MOST_NAMES
+    members >= FEW_NAMES && names >= FEW_NAMES && names as usize <= MOST_NAMES
 }
 
-// The bucket of the name whose opening quote is at `first`.
-fn bucket(text: &[u8], first: usize) -> usize
-    requires { first < length text.now }
-    ensures { Buckets text.now first result }
-{
-    match hashed_end(text, first + 1) {
-        Ok(name) => name.hash as usize / 64,
-        Err(_) => 0,
-    }
+// A name: where its bytes begin and end, and the place of the name before it in its bucket.
+#[derive(Clone, Copy, Debug, PartialEq, Eq)]
+struct Entry {
+    first: u32,
+    end: u32,
+    before: Option<u16>,
 }
 
-// Indexes the names of the object at a row: each leads to the one before it in its bucket.
-fn index_names(
-    text: &[u8],
-    table: &[u32],
-    object: usize,
-    heads: &mut [u16; BUCKETS],
-    links: &mut [u16; MOST_NAMES],
-    firsts: &mut [u32; MOST_NAMES],
-    ends: &mut [u32; MOST_NAMES],
-)
-    requires object_row { ObjectRow text.now table.now object }
-    requires object_bound { (word_of table.now object 3 ≤ most_names) × (heads.old ≡ replicate bucket_count 0) }
-    requires links_len { (length links.old ≡ most_names) × (length firsts.old ≡ most_names) × (length ends.old ≡ most_names) }
-    ensures { Indexes text.now table.now object heads.new links.new firsts.new ends.new }
-{
-    let count = row_at(table, object).children as usize;
-    let mut i: usize = 0;
-    let mut row = object + 1;
-    while i < count {
-        let name = row_at(table, row);
-        let b = bucket(text, name.first as usize);
-        firsts[i] = name.first;
-        ends[i] = name.end;
-        links[i] = heads[b];
-        i += 1;
-        heads[b] = i as u16;
-        row = row_at(table, row + 1).next;
+// What stands at a place where no name is.
+const NO_ENTRY: Entry = Entry {
+    first: 0,
+    end: 0,
+    before: None,
+};
+
+// The names of an object of a tree, in their order, and of each bucket the place of its last name.
+#[derive(Clone, Copy, Debug, PartialEq, Eq)]
+struct Index<'a> {
+    tree: Tree<'a>,
+    heads: [Option<u16>; BUCKETS],
+    names: [Entry; MOST_NAMES],
+}
+
+impl<'a> Index<'a> {
+    // Indexes the names of the object at a row of the tree: each leads to the one before it in its bucket.
+    fn list(&mut self, object: usize)
+        requires object_row { ObjectRow self.old.tree.text.now self.old.tree.table.now object }
+        requires few { word_of self.old.tree.table.now object 3 ≤ most_names }
+        requires empty { (self.old.heads ≡ replicate bucket_count None) × (length self.old.names ≡ most_names) }
+        ensures { Indexes self.old.tree.text.now self.old.tree.table.now object self.new }
+    {
+        let tree = self.tree;
+        for (i, row) in tree.members(object).enumerate() {
+            let name = tree.row_at(row);
+            let b = tree.bucket(name.first);
+            self.names[i] = Entry {
+                first: name.first,
+                end: name.end,
+                before: self.heads[b],
+            };
+            self.heads[b] = Some(i as u16);
+        }
+    }
+
+    // A member of another object, its name at a row and its value behind it: found for each indexed name that is the same and has none yet.
+    fn fill(&self, tree: Tree, row: usize, found: &mut [Option<usize>; MOST_NAMES])
+        requires in_table { InTable tree.table.now row }
+        requires quoted { IsQuoted tree.text.now (word_of tree.table.now row 1) (word_of tree.table.now row 2) }
+        requires has_index { HasIndex self.now }
+        requires found_len { length found.old ≡ most_names }
+        ensures { Fills self.now
+            (name_of tree.entry.text.now (word_of tree.entry.table.now row 1) (word_of tree.entry.table.now row 2)) (row + 1) found.old found.new }
+    {
+        let name = tree.row_at(row);
+        let key = tree.between(name.first, name.end);
+        let mut next = self.heads[tree.bucket(name.first)];
+        while let Some(place) = next {
+            let j = place as usize;
+            let entry = self.names[j];
+            let same = same_name(self.tree.between(entry.first, entry.end), key);
+            found[j] = settle(same, row + 1, found[j]);
+            next = entry.before;
+        }
     }
 }
 
 // What is found for a name behind a member that has it or not, its value at `row`: the first such row counts.
-fn settle(same: bool, row: usize, found: usize) -> usize
+fn settle(same: bool, row: usize, found: Option<usize>) -> Option<usize>
     ensures { result ≡ filled same row found }
 {
-    if same {
-        if found == 0 {
-            return row;
+    if same { found.or(Some(row)) } else { found }
+}
+
+impl<'a> Tree<'a> {
+    // The bucket of the name whose opening quote is at `first`.
+    fn bucket(self, first: u32) -> usize
+        requires { first < length self.text.now }
+        ensures { Buckets self.entry.text.now first result }
+    {
+        match hashed_end(self.text, first as usize + 1) {
+            Ok(name) => name.hash as usize / 64,
+            Err(_) => 0,
         }
     }
-    found
-}
 
-// A member with the name from `first` to `end` of the first text, and its value at `row`: found for each indexed name that is the same and has none yet.
-fn fill(
-    text1: &[u8],
-    first: u32,
-    end: u32,
-    row: usize,
-    text2: &[u8],
-    heads: &[u16; BUCKETS],
-    links: &[u16; MOST_NAMES],
-    firsts: &[u32; MOST_NAMES],
-    ends: &[u32; MOST_NAMES],
-    found: &mut [usize; MOST_NAMES],
-)
-    requires quoted { IsQuoted text1.now first end }
-    requires has_index { HasIndex text2.now heads.now links.now firsts.now ends.now }
-    requires found_len { length found.old ≡ most_names }
-    ensures { Fills text2.now heads.now links.now firsts.now ends.now
-        (name_of text1.now first end) row found.old found.new }
-{
-    let key = between(text1, first, end);
-    let mut k = heads[bucket(text1, first as usize)] as usize;
-    while k > 0 {
-        let j = k - 1;
-        let same = same_name(between(text2, firsts[j], ends[j]), key);
-        found[j] = settle(same, row, found[j]);
-        k = links[j] as usize;
+    // For each member at row `part` of another tree, in order, for which nothing is found yet: the row of the value under its name in the object at a row.
+    pub fn match_names(
+        self,
+        object: usize,
+        other: Tree,
+        part: usize,
+        found: &mut [Option<usize>; MOST_NAMES],
+    )
+        requires object_row { ObjectRow self.text.now self.table.now object }
+        requires object_row_2 { ObjectRow other.text.now other.table.now part }
+        requires part_bound { (word_of other.table.now part 3 ≤ most_names) × (length found.old ≡ most_names) }
+        ensures { Matches self.entry.text.now self.entry.table.now object other.entry.text.now other.entry.table.now part
+            found.old found.new }
+    {
+        // Filled where it stands, since a struct of this size that a call gives back would be copied, and take the stack twice.
+        let mut index = Index {
+            tree: other,
+            heads: [None; BUCKETS],
+            names: [NO_ENTRY; MOST_NAMES],
+        };
+        index.list(part);
+        for row in self.members(object) {
+            index.fill(self, row, found);
+        }
     }
-}
-
-// The same with every member of the object at a row of the first table.
-fn fill_all(
-    text1: &[u8],
-    table1: &[u32],
-    object: usize,
-    text2: &[u8],
-    heads: &[u16; BUCKETS],
-    links: &[u16; MOST_NAMES],
-    firsts: &[u32; MOST_NAMES],
-    ends: &[u32; MOST_NAMES],
-    found: &mut [usize; MOST_NAMES],
-)
-    requires object_row { ObjectRow text1.now table1.now object }
-    requires has_index { HasIndex text2.now heads.now links.now firsts.now ends.now }
-    requires found_len { length found.old ≡ most_names }
-    ensures { FillsAll text1.now table1.now object
-        text2.now heads.now links.now firsts.now ends.now found.old found.new }
-{
-    let mut left = row_at(table1, object).children;
-    let mut row = object + 1;
-    while left > 0 {
-        let name = row_at(table1, row);
-        fill(
-            text1,
-            name.first,
-            name.end,
-            row + 1,
-            text2,
-            heads,
-            links,
-            firsts,
-            ends,
-            found,
-        );
-        row = row_at(table1, row + 1).next;
-        left -= 1;
-    }
-}
-
-// For each member at row `part` of the second table, in order, for which nothing is found yet (0): the row of the value under its name in the object at a row
-// of the first; 0 where there is none.
-pub fn match_names(
-    text1: &[u8],
-    table1: &[u32],
-    object: usize,
-    text2: &[u8],
-    table2: &[u32],
-    part: usize,
-    found: &mut [usize; MOST_NAMES],
-)
-    requires object_row { ObjectRow text1.now table1.now object }
-    requires object_row_2 { ObjectRow text2.now table2.now part }
-    requires part_bound { (word_of table2.now part 3 ≤ most_names) × (length found.old ≡ most_names) }
-    ensures { Matches text1.now table1.now object text2.now table2.now part
-        found.old found.new }
-{
-    let mut heads = [0u16; BUCKETS];
-    let mut links = [0u16; MOST_NAMES];
-    let mut firsts = [0u32; MOST_NAMES];
-    let mut ends = [0u32; MOST_NAMES];
-    index_names(
-        text2,
-        table2,
-        part,
-        &mut heads,
-        &mut links,
-        &mut firsts,
-        &mut ends,
-    );
-    fill_all(
-        text1, table1, object, text2, &heads, &links, &firsts, &ends, found,
-    );
 }

@@ -2,8 +2,9 @@
 use Prim.Native.Nat.{ℕ, ◌≤◌}
 use mathlib.Core.Path.{◌≡◌, refl, sym, ap, ◌∙◌}
 use mathlib.Core.List.{List}
+use Rattle.std.specs.Prelude.{Result, Ok, Err}
+use Rattle.model.proofs.Basics.{never}
 use mathlib.Core.Bool.{Bool, true, false, cond}
-use native.Mathlib.Omega.{arith}
 use lib.ListN.{length}
 use lib.Dec.{leb}
 use borrow.Author.Tests.{le-leb}
@@ -15,16 +16,15 @@ use Rattle.syntax.specs.declared.answers.Answer.{Answer}
 use Rattle.syntax.specs.declared.limits.Limits.{Limits}
 use Rattle.syntax.proofs.Theorems.{read_placed, read_table, read_code}
 use Rattle.reader.proofs.Facts.{answer_zero}
-use Rattle.definitions.specs.Definitions.{Located, Defined, faulty, fine, definition_at, fault_of, Defines}
-use Rattle.definitions.specs.Accepting.{read_schema, not_accepted, accept_answer, defined_as, accepted_as, accept}
+use Rattle.definitions.specs.Definitions.{Located, Defined, faulty, fine, definition_at, fault_number, fault, fault_of, Defines}
+use Rattle.definitions.specs.Accepting.{read_schema, not_accepted, accept_result, defined_as, accepted_as, accept}
 use Rattle.rows.specs.Records.{Rowed}
 use Rattle.definitions.specs.declared.definitions.Fault.{Fault}
-use Rattle.definitions.proofs.definitions.Faults.{fault_code}
 
 -- ---- a text that is read
 
 -- a refusal, or no room: the answer is not 0
-pub unread : (which w : ℕ) (s : List ℕ) (o : Parse Node) → ((answer_of which w o).code ≡ 0 → ⊥) → answer_of which w o ≡ accept_answer (accepted_as which w s o)
+unread : (which w : ℕ) (s : List ℕ) (o : Parse Node) → ((answer_of which w o).code ≡ 0 → ⊥) → Err (answer_of which w o) ≡ accept_result (accepted_as which w s o)
 unfolding answer_of
 unread which w s (refused c p) n = refl
 unread which w s (parsed m e) n = go (leb (size m) (rows_in w)) n
@@ -33,7 +33,7 @@ unread which w s (parsed m e) n = go (leb (size m) (rows_in w)) n
     full = answer 8 which 0 (size m)
 
     go : (b : Bool) → ((cond b (answer 0 0 0 (size m)) full).code ≡ 0 → ⊥)
-        → cond b (answer 0 0 0 (size m)) full ≡ accept_answer (cond b (defined_as which (definition_at s m)) (not_accepted full))
+        → Err (cond b (answer 0 0 0 (size m)) full) ≡ accept_result (cond b (defined_as which (definition_at s m)) (not_accepted full))
     go true f = absurd (f refl)
     go false f = refl
 
@@ -67,14 +67,9 @@ pub record SchemaRead (which : ℕ) (s t : List ℕ) (a : Answer) (t₂ : List �
   pub rows : t₂ ≡ table_of t (read_schema s)
 
 module _ {which : ℕ} {s t : List ℕ} {a : Answer} {t₂ : List ℕ} (r : SchemaRead which s t a t₂) where
-  -- what `accept` promises of an answer
-  abbrev Accepts : Answer → Type 0
-  Accepts b = (b ≡ accept_answer (accept which (length t) s)) × (t₂ ≡ table_of t (read_schema s))
-
-  pub accept_unread : (a.code ≡ 0 → ⊥) → Accepts a
+  pub accept_unread : (a.code ≡ 0 → ⊥) → Err a ≡ accept_result (accept which (length t) s)
   unfolding accept
-  accept_unread n =
-      (r.answers ∙ unread which (length t) s (read_schema s) (λ z. n (ap (λ (b : Answer). b.code) r.answers ∙ z)), r.rows)
+  accept_unread n = ap (λ (b : Answer). Err b) r.answers ∙ unread which (length t) s (read_schema s) (λ z. n (ap (λ (b : Answer). b.code) r.answers ∙ z))
 
   module _ (z : a.code ≡ 0) where
     read : HasRead schema_limits s t
@@ -88,21 +83,21 @@ module _ {which : ℕ} {s t : List ℕ} {a : Answer} {t₂ : List ℕ} (r : Sche
     unfolding accept
     accepts = rw (read.reads, le-leb (size read.tree) (rows_in (length t)) read.room)
 
-    module _ {f : Fault} (d : Defines s t₂ 0 f) where
-      told : f ≡ fault_of (definition_at s read.tree)
+    module _ {x : Result (Unit {0}) Fault} (d : Defines s t₂ 0 x) where
+      told : x ≡ fault_of (definition_at s read.tree)
       unfolding read
       told = (rw r.rows at d).tells (has_rows read)
 
-      pub accept_faulty : (f.code ≡ 0 → ⊥) → {b : Answer} → b ≡ answer f.code which f.place 0 → Accepts b
-      accept_faulty n q = (q ∙ go (definition_at s read.tree) told ∙ ap accept_answer (sym accepts), r.rows)
+      pub accept_faulty : {f : Fault} → x ≡ Err f → {b : Answer} → b ≡ answer (fault_number f.code) which f.place 0 → Err b ≡ accept_result (accept which (length t) s)
+      accept_faulty {f = f} e q = rw (q, accepts) (go (definition_at s read.tree) (sym e ∙ told))
         where
-          go : (x : Defined Located) → f ≡ fault_of x → answer f.code which f.place 0 ≡ accept_answer (defined_as which x)
-          go (faulty c p) e = rw e
-          go (fine x) e = absurd (n (ap (λ (b : Fault). b.code) e))
+          go : (y : Defined Located) → Err f ≡ fault_of y → Err (answer (fault_number f.code) which f.place 0) ≡ accept_result (defined_as which y)
+          go (faulty c p) h = (let i : f ≡ fault c p = cc in rw i)
+          go (fine y) h = never (cc)
 
-      pub accept_fine : f.code ≡ 0 → {b : Answer} → b ≡ answer 0 0 0 0 → Accepts b
-      accept_fine n q = (q ∙ go (definition_at s read.tree) refl told ∙ ap accept_answer (sym accepts), r.rows)
+      pub accept_fine : {u : Unit {0}} → x ≡ Ok u → Ok tt ≡ accept_result (accept which (length t) s)
+      accept_fine {u = u} e = rw accepts (go (definition_at s read.tree) (sym e ∙ told))
         where
-          go : (x : Defined Located) → definition_at s read.tree ≡ x → f ≡ fault_of x → answer 0 0 0 0 ≡ accept_answer (defined_as which x)
-          go (faulty c p) r e = absurd (omega (arith, fault_code s read.tree c p r, sym (ap (λ (b : Fault). b.code) e) ∙ n))
-          go (fine x) r e = refl
+          go : (y : Defined Located) → Ok u ≡ fault_of y → Ok tt ≡ accept_result (defined_as which y)
+          go (faulty c p) h = never (cc)
+          go (fine y) h = refl

@@ -14,6 +14,7 @@ use Rattle.syntax.specs.Answer.{rows_in}
 use Rattle.syntax.proofs.Theorems.{read_code}
 use Rattle.definitions.specs.Definitions.{Located, Defined, faulty, fine, definition_at}
 use Rattle.definitions.specs.Accepting.{read_schema, Accepted, not_accepted, accepted, defined_as, accepted_as, accept, HasRoom}
+use Rattle.definitions.specs.declared.definitions.FaultCode.{FaultCode}
 use Rattle.definitions.proofs.definitions.Faults.{fault_code}
 
 -- the ways of what was read
@@ -23,7 +24,7 @@ by_parse P (refused c p) f g = f c p refl
 by_parse P (parsed n e) f g = g n e refl
 
 by_defined : {A : Type 0} (P : Defined A → Type 0) (o : Defined A)
-    → ((c p : ℕ) → o ≡ faulty c p → P (faulty c p)) → ((a : A) → o ≡ fine a → P (fine a)) → P o
+    → ((c : FaultCode) (p : ℕ) → o ≡ faulty c p → P (faulty c p)) → ((a : A) → o ≡ fine a → P (fine a)) → P o
 by_defined P (faulty c p) f g = f c p refl
 by_defined P (fine a) f g = g a refl
 
@@ -58,7 +59,7 @@ module _ (which w : ℕ) (s : List ℕ) where
       (λ c p q. (omega (arith, read_code _ _ s c p q), λ d t. refused_none q t.read))
       (λ n e q. both Way (leb (size n) (rows_in w))
       (λ l. by_defined (λ o. Way (defined_as which o)) (definition_at s n)
-      (λ c p r. (omega (arith, fault_code s n c p r), λ d t. (let x = one_tree q t.read in let y = t.defines in never (cc))))
+      (λ c p r. (omega (arith, fault_code c), λ d t. (let x = one_tree q t.read in let y = t.defines in never (cc))))
       (λ d r. (
         record { tree = n; read = record { end = e; reads = q; room = leb-true _ _ l }; defines = r },
         λ d₂ t. (let x = one_tree q t.read in let y = t.defines in cc),

@@ -1,7 +1,8 @@
 -- Of every fault: its code is 10, 11 or 12, and its place lies within the text. Of every definition: its first byte is that of its value.
 use Prim.Native.Nat.{ℕ, ◌≤◌, ◌<◌}
 use mathlib.Core.Path.{◌≡◌, refl, subst}
-use mathlib.Core.Option.{Option, none, some}
+use Rattle.std.specs.Prelude.{Option, Some, None}
+use Rattle.std.proofs.Math.Option.{Option as MathOption, none, some}
 use mathlib.Core.List.{List}
 use native.Mathlib.Omega.{arith}
 use lib.ListN.{length}
@@ -18,7 +19,9 @@ use Rattle.syntax.specs.Holding.{Placed, PlacedMembers}
 use Rattle.definitions.specs.Definitions.{Located, named-at, array_at, map_at, object-at, LocatedFields, field, Defined, faulty, fine}
 use Rattle.definitions.specs.Definitions.{if_fine, type_at, scalar_definition, is_last, added_at, has_named, shared_at, Part, wrong, members_with}
 use Rattle.definitions.specs.Definitions.{both_fields, unshared, joined_at, constructed_at, definition_at, single_at, body_at, part_at, part_of}
-use Rattle.definitions.specs.Definitions.{fields_at}
+use Rattle.definitions.specs.Definitions.{fields_at, fault_number}
+use Rattle.definitions.specs.declared.definitions.FaultCode.{FaultCode}
+use Rattle.definitions.specs.declared.definitions.FaultCode.TheVariants.{NoDefinition, UnknownType, SharedName}
 
 -- ---- the first byte
 
@@ -46,14 +49,14 @@ scalar_starts s Whole f e = tt
 scalar_starts s Fractional f e = tt
 scalar_starts s Quoted f e = type_starts (named_by (name_of s f e))
   where
-    type_starts : (t : Option Named) → Starts f (type_at f t)
+    type_starts : (t : MathOption Named) → Starts f (type_at f t)
     type_starts none = tt
     type_starts (some t) = refl
 
 both_starts : (p : ℕ) (x : Option ℕ) (r o : Defined LocatedFields) → Starts p (unshared x (both_fields p r o))
-both_starts p (some q) r o = tt
-both_starts p none (faulty c q) o = tt
-both_starts p none (fine r) o = mapped_starts p (object-at p r) (λ _. refl) o
+both_starts p (Some q) r o = tt
+both_starts p None (faulty c q) o = tt
+both_starts p None (fine r) o = mapped_starts p (object-at p r) (λ _. refl) o
 
 joined_starts : (s : List ℕ) (p : ℕ) (r o : Part) → Starts p (joined_at s p r o)
 joined_starts s p (wrong q) o = tt
@@ -86,31 +89,21 @@ located_first s n d q = subst (Starts (place_of n)) q (definition_starts s n)
 
 -- ---- codes and places
 
--- a fault; X is what puts its place within the text
-record FaultWithin (s : List ℕ) (X : Type 0) (c p : ℕ) : Type 0 where
-  low : 10 ≤ c
-  high : c ≤ 12
-  within : X → p < length s
-
-abbrev pub Coded : {A : Type 0} → Defined A → Type 0
-Coded (faulty c p) = 0 < c
-Coded (fine a) = Unit
+-- the number of every code
+pub fault_code : (c : FaultCode) → (10 ≤ fault_number c) × (fault_number c ≤ 12)
+fault_code NoDefinition = omega arith
+fault_code UnknownType = omega arith
+fault_code SharedName = omega arith
 
 module _ (s : List ℕ) where
-  fault-of : (X : Type 0) (c p : ℕ) → (10 ≤ c) × (c ≤ 12) → (X → p < length s) → FaultWithin s X c p
-  fault-of X c p l h = record { low = l.0; high = l.1; within = h }
-
-  -- the fault, if there is one
+  -- the place of the fault, if there is one, lies within the text; X is what puts it there
   abbrev AnyFault : {A : Type 0} → Type 0 → Defined A → Type 0
-  AnyFault X (faulty c p) = FaultWithin s X c p
+  AnyFault X (faulty c p) = X → p < length s
   AnyFault X (fine a) = Unit
 
-  -- what puts the place within the text may follow from something else
-  weaken_fault : (X Y : Type 0) → (Y → X) → (c p : ℕ) → FaultWithin s X c p → FaultWithin s Y c p
-  weaken_fault X Y f c p h = record { low = h.low; high = h.high; within = λ y. h.within (f y) }
-
+  -- that may follow from something else
   weaken : {A : Type 0} (X Y : Type 0) → (Y → X) → (d : Defined A) → AnyFault X d → AnyFault Y d
-  weaken X Y f (faulty c p) h = weaken_fault X Y f c p h
+  weaken X Y f (faulty c p) h = λ y. h (f y)
   weaken X Y f (fine a) h = tt
 
   mapped_fault : {A B : Type 0} (X : Type 0) (f : A → B) (d : Defined A) → AnyFault X d → AnyFault X (if_fine f d)
@@ -132,8 +125,8 @@ module _ (s : List ℕ) where
 
   -- the first name that is shared, if there is one
   abbrev NameWithin : Option ℕ → Type 0
-  NameWithin none = Unit
-  NameWithin (some q) = q < length s
+  NameWithin None = Unit
+  NameWithin (Some q) = q < length s
 
   shared_within : (ms ns : Members) → PlacedMembers s ns → NameWithin (shared_at s ms ns)
   shared_within ms no_member h = tt
@@ -141,16 +134,16 @@ module _ (s : List ℕ) where
       both NameWithin (has_named s (name_of s f e) ms) (λ _. quote_within f e h.0) (λ _. shared_within ms ns h.2)
 
   unshared_fault : (X : Type 0) (x : Option ℕ) (d : Defined Located) → (X → NameWithin x) → AnyFault X d → AnyFault X (unshared x d)
-  unshared_fault X none d h k = k
-  unshared_fault X (some q) d h k = fault-of X 12 q (omega arith) h
+  unshared_fault X None d h k = k
+  unshared_fault X (Some q) d h k = h
 
   -- a part's members lie within the text too
   abbrev PartFault : Type 0 → Part → Type 0
-  PartFault X (wrong q) = FaultWithin s X 10 q
+  PartFault X (wrong q) = X → q < length s
   PartFault X (members_with ms r) = (X → PlacedMembers s ms) × AnyFault X r
 
   weaken_part : (X Y : Type 0) → (Y → X) → (p : Part) → PartFault X p → PartFault Y p
-  weaken_part X Y f (wrong q) h = weaken_fault X Y f 10 q h
+  weaken_part X Y f (wrong q) h = λ y. h (f y)
   weaken_part X Y f (members_with ms r) h = (λ y. h.0 (f y), weaken X Y f r h.1)
 
   joined_fault : (X : Type 0) (p : ℕ) (r o : Part) → PartFault X r → PartFault X o → AnyFault X (joined_at s p r o)
@@ -164,7 +157,7 @@ module _ (s : List ℕ) where
   constructed_fault X p q n d o l h k =
       both (AnyFault X) (same n (text "Array")) (λ _. mapped_fault X (array_at p) d h)
       (λ _. both (AnyFault X) (same n (text "Map")) (λ _. mapped_fault X (map_at p) d h)
-      (λ _. both (AnyFault X) (same n (text "Object")) (λ _. k) (λ _. fault-of X 11 q (omega arith) l)))
+      (λ _. both (AnyFault X) (same n (text "Object")) (λ _. k) (λ _. l)))
 
   -- the first byte of a value lies within the text
   pub place_within : (n : Node) → Placed s n → place_of n < length s
@@ -172,43 +165,39 @@ module _ (s : List ℕ) where
   place_within (array f e ns) h = omega (arith, h.0, h.1)
   place_within (object f e ms) h = omega (arith, h.0, h.1)
 
-  -- "Other kinds: 10."
-  wrong_kind : (n : Node) → FaultWithin s (Placed s n) 10 (place_of n)
-  wrong_kind n = fault-of (Placed s n) 10 (place_of n) (omega arith) (place_within n)
-
   scalar_fault : (k : Kind) (f e : ℕ) → AnyFault (Placed s (scalar k f e)) (scalar_definition s k f e)
-  scalar_fault Null f e = wrong_kind (scalar Null f e)
-  scalar_fault False f e = wrong_kind (scalar False f e)
-  scalar_fault True f e = wrong_kind (scalar True f e)
-  scalar_fault Whole f e = wrong_kind (scalar Whole f e)
-  scalar_fault Fractional f e = wrong_kind (scalar Fractional f e)
+  scalar_fault Null f e = place_within (scalar Null f e)
+  scalar_fault False f e = place_within (scalar False f e)
+  scalar_fault True f e = place_within (scalar True f e)
+  scalar_fault Whole f e = place_within (scalar Whole f e)
+  scalar_fault Fractional f e = place_within (scalar Fractional f e)
   scalar_fault Quoted f e = type_fault (named_by (name_of s f e))
     where
-      type_fault : (t : Option Named) → AnyFault (Placed s (scalar Quoted f e)) (type_at f t)
-      type_fault none = fault-of (Placed s (scalar Quoted f e)) 11 f (omega arith) (place_within (scalar Quoted f e))
+      type_fault : (t : MathOption Named) → AnyFault (Placed s (scalar Quoted f e)) (type_at f t)
+      type_fault none = place_within (scalar Quoted f e)
       type_fault (some t) = tt
 
   mutual
     definition_fault : (n : Node) → AnyFault (Placed s n) (definition_at s n)
     definition_fault (scalar k f e) = scalar_fault k f e
-    definition_fault (array f e ns) = wrong_kind (array f e ns)
+    definition_fault (array f e ns) = place_within (array f e ns)
     definition_fault (object f e ms) =
         let X = Placed s (object f e ms) in
         weaken ((f < length s) × PlacedMembers s ms) X (λ h. (place_within (object f e ms) h, h.2)) (single_at s f ms) (single_fault f ms)
 
     single_fault : (p : ℕ) (ms : Members) → AnyFault ((p < length s) × PlacedMembers s ms) (single_at s p ms)
-    single_fault p no_member = fault-of _ 10 p (omega arith) (λ h. h.0)
+    single_fault p no_member = λ h. h.0
     single_fault p (member f e n ms) =
         let X = (p < length s) × PlacedMembers s (member f e n ms) in
         both (AnyFault X) (is_last ms)
         (λ _. constructed_fault X p f (name_of s f e) (definition_at s n) (body_at s p n) (λ h. quote_within f e h.1.0)
         (weaken (Placed s n) X (λ h. h.1.1) (definition_at s n) (definition_fault n))
         (weaken (Placed s n) X (λ h. h.1.1) (body_at s p n) (body_fault p n)))
-        (λ _. fault-of X 10 p (omega arith) (λ h. h.0))
+        (λ _ h. h.0)
 
     body_fault : (p : ℕ) (n : Node) → AnyFault (Placed s n) (body_at s p n)
-    body_fault p (scalar k f e) = wrong_kind (scalar k f e)
-    body_fault p (array f e ns) = wrong_kind (array f e ns)
+    body_fault p (scalar k f e) = place_within (scalar k f e)
+    body_fault p (array f e ns) = place_within (array f e ns)
     body_fault p (object f e ms) =
         let X = Placed s (object f e ms) in
         let found : (k : List ℕ) → PartFault X (part_at s k ms) =
@@ -224,8 +213,8 @@ module _ (s : List ℕ) where
         (λ _. weaken_part (PlacedMembers s ms) X (λ h. h.2) (part_at s k ms) (part_fault k ms))
 
     of_fault : (n : Node) → PartFault (Placed s n) (part_of s n)
-    of_fault (scalar k f e) = wrong_kind (scalar k f e)
-    of_fault (array f e ns) = wrong_kind (array f e ns)
+    of_fault (scalar k f e) = place_within (scalar k f e)
+    of_fault (array f e ns) = place_within (array f e ns)
     of_fault (object f e ms) = (λ h. h.2, weaken (PlacedMembers s ms) (Placed s (object f e ms)) (λ h. h.2) (fields_at s ms) (in_fault ms))
 
     in_fault : (ms : Members) → AnyFault (PlacedMembers s ms) (fields_at s ms)
@@ -236,22 +225,5 @@ module _ (s : List ℕ) where
         (weaken (Placed s n) X (λ h. h.1) (definition_at s n) (definition_fault n))
         (weaken (PlacedMembers s ms) X (λ h. h.2) (fields_at s ms) (in_fault ms))
 
-  fault_at : (n : Node) (c p : ℕ) → definition_at s n ≡ faulty c p → FaultWithin s (Placed s n) c p
-  fault_at n c p q = subst (AnyFault (Placed s n)) q (definition_fault n)
-
-  pub fault_code : (n : Node) (c p : ℕ) → definition_at s n ≡ faulty c p → (10 ≤ c) × (c ≤ 12)
-  fault_code n c p q = let x = fault_at n c p q in (x.low, x.high)
-
-  pub fault_placed : (n : Node) (c p : ℕ) → Placed s n → definition_at s n ≡ faulty c p → p < length s
-  fault_placed n c p h q = (fault_at n c p q).within h
-
-  -- a fault's code is not 0
-  coded : {A : Type 0} (X : Type 0) (d : Defined A) → AnyFault X d → Coded d
-  coded X (faulty c p) h = omega (arith, h.low)
-  coded X (fine a) h = tt
-
-  pub definition_coded : (n : Node) → Coded (definition_at s n)
-  definition_coded n = coded (Placed s n) (definition_at s n) (definition_fault n)
-
-  pub fields_coded : (ms : Members) → Coded (fields_at s ms)
-  fields_coded ms = coded (PlacedMembers s ms) (fields_at s ms) (in_fault ms)
+  pub fault_placed : (n : Node) (c : FaultCode) (p : ℕ) → Placed s n → definition_at s n ≡ faulty c p → p < length s
+  fault_placed n c p h q = subst (AnyFault (Placed s n)) q (definition_fault n) h

@@ -2,7 +2,8 @@
 use Prim.Native.Nat.{ℕ}
 use mathlib.Core.Path.{◌≡◌, refl, sym, ap, ◌∙◌}
 use mathlib.Core.Bool.{Bool, true, false, not, cond, ◌&&◌, ◌||◌}
-use mathlib.Core.Option.{Option, none, some}
+use Rattle.std.specs.Prelude.{Option, Some, None}
+use Rattle.std.proofs.Math.Option.{Option as MathOption, none, some}
 use mathlib.Core.List.{List}
 use Rattle.model.specs.Text.{text, same}
 use Rattle.model.specs.Definition.{Named, named_by, Def, named, array_of, map_of, Fields, has_field, disjoint, is_empty, definition_of, single}
@@ -17,19 +18,21 @@ use Rattle.syntax.specs.Spelling.{scalar_of, value_of, members_of}
 use Rattle.definitions.specs.Definitions.{Located, array_at, map_at, object-at, LocatedFields, no_field, field, bare, bare_fields}
 use Rattle.definitions.specs.Definitions.{Defined, faulty, fine, if_fine, type_at, scalar_definition, is_last, added_at, has_named, shared_at, Part}
 use Rattle.definitions.specs.Definitions.{wrong, members_with, both_fields, unshared, joined_at, constructed_at, definition_at, single_at}
+use Rattle.definitions.specs.declared.definitions.FaultCode.{FaultCode}
+use Rattle.definitions.specs.declared.definitions.FaultCode.TheVariants.{NoDefinition}
 use Rattle.definitions.specs.Definitions.{body_at, part_at, part_of, fields_at}
 
 -- ---- without places, and without what a fault says
 
-abbrev pub forget : Defined Located → Option Def
+abbrev pub forget : Defined Located → MathOption Def
 forget (faulty c p) = none
 forget (fine d) = some (bare d)
 
-abbrev pub forget_fields : Defined LocatedFields → Option Fields
+abbrev pub forget_fields : Defined LocatedFields → MathOption Fields
 forget_fields (faulty c p) = none
 forget_fields (fine fs) = some (bare_fields fs)
 
-abbrev forget_part : Part → Option Fields
+abbrev forget_part : Part → MathOption Fields
 forget_part (wrong q) = none
 forget_part (members_with ms r) = forget_fields r
 
@@ -38,7 +41,7 @@ mapped_forgets : (f : Located → Located) (g : Def → Def) → ((d : Located) 
 mapped_forgets f g h (faulty c p) = refl
 mapped_forgets f g h (fine d) = ap some (h d)
 
-type_forgets : (p : ℕ) (t : Option Named) → map-option named t ≡ forget (type_at p t)
+type_forgets : (p : ℕ) (t : MathOption Named) → map-option named t ≡ forget (type_at p t)
 type_forgets p none = refl
 type_forgets p (some t) = refl
 
@@ -49,12 +52,12 @@ added_forgets p n (fine d) (faulty c q) = refl
 added_forgets p n (fine d) (fine fs) = refl
 
 -- a choice between two, by one test
-choice_forgets : {A B : Type 0} (f : A → Option B) (b : Bool) (x y : Option B) (d e : A)
+choice_forgets : {A B : Type 0} (f : A → MathOption B) (b : Bool) (x y : MathOption B) (d e : A)
     → x ≡ f d → y ≡ f e → cond b x y ≡ f (cond b d e)
 choice_forgets f true x y d e h k = h
 choice_forgets f false x y d e h k = k
 
-constructed_forgets : (p q : ℕ) (n : List ℕ) (x y : Option Def) (d o : Defined Located)
+constructed_forgets : (p q : ℕ) (n : List ℕ) (x y : MathOption Def) (d o : Defined Located)
     → x ≡ forget d → y ≡ forget o → constructed-option n x y ≡ forget (constructed_at p q n d o)
 constructed_forgets p q n x y d o h k =
     choice_forgets forget (same n (text "Array")) _ _ _ _ (rw h (mapped_forgets (array_at p) array_of (λ e. refl) d))
@@ -78,8 +81,8 @@ added_fine p n (fine d) (faulty c q) all e = never (cc)
 added_fine p n (fine d) (fine fs) all e = record { definition = d; others = fs; defines = refl; define = refl; adds = cc }
 
 abbrev is_none : Option ℕ → Bool
-is_none none = true
-is_none (some q) = false
+is_none None = true
+is_none (Some q) = false
 
 module _ (s : List ℕ) where
   -- the fields have the members' names
@@ -90,7 +93,7 @@ module _ (s : List ℕ) where
       rw a.adds (ap (λ b. same n (name_of s f e) || b) (names_in ms a.others a.define n))
 
   -- no name is shared
-  shared_none : (b : Bool) (f : ℕ) (o : Option ℕ) → not b && is_none o ≡ is_none (cond b (some f) o)
+  shared_none : (b : Bool) (f : ℕ) (o : Option ℕ) → not b && is_none o ≡ is_none (cond b (Some f) o)
   shared_none true f o = refl
   shared_none false f o = refl
 
@@ -119,14 +122,14 @@ module _ (s : List ℕ) where
   part_honest k (member f e n ms) = both Honest (same k (name_of s f e)) (λ _. of_honest n) (λ _. part_honest k ms)
 
   -- a fault of the fields, whatever the names are
-  unshared_forgets : (o : Option ℕ) (c q : ℕ) → none ≡ forget (unshared o (faulty c q))
-  unshared_forgets none c q = refl
-  unshared_forgets (some p) c q = refl
+  unshared_forgets : (o : Option ℕ) (c : FaultCode) (q : ℕ) → none ≡ forget (unshared o (faulty c q))
+  unshared_forgets None c q = refl
+  unshared_forgets (Some p) c q = refl
 
   -- an Object without places, where no name is shared
   object_forgets : (o : Option ℕ) (d : Located) → cond (is_none o) (some (bare d)) none ≡ forget (unshared o (fine d))
-  object_forgets none d = refl
-  object_forgets (some q) d = refl
+  object_forgets None d = refl
+  object_forgets (Some q) d = refl
 
   fields_forgets : (p : ℕ) (ms ns : Members) (r o : Defined LocatedFields) → r ≡ fields_at s ms → o ≡ fields_at s ns
       → joined-option (forget_fields r) (forget_fields o) ≡ forget (unshared (shared_at s ms ns) (both_fields p r o))
@@ -134,7 +137,7 @@ module _ (s : List ℕ) where
   fields_forgets p ms ns (fine r) (faulty c q) h k = unshared_forgets (shared_at s ms ns) c q
   fields_forgets p ms ns (fine r) (fine o) h k = rw (disjoint_shared ms r (sym h) ns o (sym k)) (object_forgets (shared_at s ms ns) (object-at p r o))
 
-  no_second : (r : Option Fields) → joined-option r none ≡ none
+  no_second : (r : MathOption Fields) → joined-option r none ≡ none
   no_second none = refl
   no_second (some r) = refl
 
@@ -170,8 +173,8 @@ module _ (s : List ℕ) where
   scalar_part Fractional f e = refl
   scalar_part Quoted f e = refl
 
-  last_forgets : (ms : Members) (p : ℕ) (x : Option Def) (d : Defined Located) → x ≡ forget d
-      → cond (is_empty (members_of s ms)) x none ≡ forget (cond (is_last ms) d (faulty 10 p))
+  last_forgets : (ms : Members) (p : ℕ) (x : MathOption Def) (d : Defined Located) → x ≡ forget d
+      → cond (is_empty (members_of s ms)) x none ≡ forget (cond (is_last ms) d (faulty NoDefinition p))
   last_forgets no_member p x d h = h
   last_forgets (member f e n ms) p x d h = refl
 
@@ -213,7 +216,7 @@ module _ (s : List ℕ) where
   pub defined_plain : (n : Node) (d : Located) → definition_at s n ≡ fine d → definition_of (value_of s n) ≡ some (bare d)
   defined_plain n d q = definition_forgets n ∙ ap forget q
 
-  pub faulty_none : (n : Node) (c p : ℕ) → definition_at s n ≡ faulty c p → definition_of (value_of s n) ≡ none
+  pub faulty_none : (n : Node) (c : FaultCode) (p : ℕ) → definition_at s n ≡ faulty c p → definition_of (value_of s n) ≡ none
   faulty_none n c p q = definition_forgets n ∙ ap forget q
 
   forget_some : (x : Defined Located) (y : Def) → forget x ≡ some y → (d : Located) × (x ≡ fine d) × (bare d ≡ y)

@@ -5,9 +5,10 @@ use mathlib.Core.List.{List}
 use Rattle.tokens.specs.declared.tokens.Kind.TheVariants.{Null, False, True, Whole, Fractional, Quoted}
 use Rattle.syntax.specs.Tree.{Node, scalar, array, object, place_of}
 use Rattle.definitions.specs.Definitions.{faulty, wrong, definition_at, body_at, part_of}
+use Rattle.definitions.specs.declared.definitions.FaultCode.TheVariants.{NoDefinition}
 use Rattle.rows.proofs.Facts.{kind_of}
 
-pub no_body : (s : List ℕ) (p : ℕ) (n : Node) → (kind_of n ≡ 8 → ⊥) → body_at s p n ≡ faulty 10 (place_of n)
+pub no_body : (s : List ℕ) (p : ℕ) (n : Node) → (kind_of n ≡ 8 → ⊥) → body_at s p n ≡ faulty NoDefinition (place_of n)
 no_body s p (scalar k f e) h = refl
 no_body s p (array f e ns) h = refl
 no_body s p (object f e ms) h = absurd (h refl)
@@ -17,7 +18,7 @@ no_part s (scalar k f e) h = refl
 no_part s (array f e ns) h = refl
 no_part s (object f e ms) h = absurd (h refl)
 
-pub no_definition : (s : List ℕ) (n : Node) → (kind_of n ≡ 6 → ⊥) → (kind_of n ≡ 8 → ⊥) → definition_at s n ≡ faulty 10 (place_of n)
+pub no_definition : (s : List ℕ) (n : Node) → (kind_of n ≡ 6 → ⊥) → (kind_of n ≡ 8 → ⊥) → definition_at s n ≡ faulty NoDefinition (place_of n)
 no_definition s (scalar Null f e) h g = refl
 no_definition s (scalar False f e) h g = refl
 no_definition s (scalar True f e) h g = refl

@@ -1,7 +1,8 @@
 -- The fields of an Object definition by their rows, one after the other.
-use Prim.Native.Nat.{ℕ, ◌+◌, ◌-◌, ◌≤◌, ◌<◌}
+use Prim.Native.Nat.{ℕ, ◌+◌, ◌<◌}
 use mathlib.Core.Path.{◌≡◌, refl, sym, ap, ◌∙◌}
 use mathlib.Core.List.{List}
+use Rattle.std.specs.Prelude.{Option, Some, None}
 use native.Mathlib.Omega.{arith}
 use Rattle.model.specs.Definition.{fcons}
 use Rattle.syntax.specs.Tree.{Members, no_member}
@@ -9,12 +10,13 @@ use Rattle.syntax.specs.Grammar.{name_of}
 use Rattle.syntax.specs.Rows.{sizes_members}
 use Rattle.syntax.specs.Holding.{word}
 use Rattle.definitions.specs.Definitions.{LocatedFields, no_field, field, fine, definition_at, fields_at, bare, bare_fields}
-use Rattle.rows.specs.Records.{Reads, InTable}
+use Rattle.rows.specs.Records.{InTable}
+use Rattle.rows.specs.Children.{Passes, Begins}
+use Rattle.rows.specs.declared.children.Children.{Children}
 use Rattle.definitions.specs.Shapes.{DefinedRow, FieldsRow}
-use Rattle.rows.specs.declared.records.Record.{Record}
 use Rattle.definitions.proofs.definitions.Meaning.{added_fine}
-use Rattle.rows.proofs.Facts.{row, same_tree, as_row, part_object, same_part, MembersLeft, members_start, member_here, members_next}
-use Rattle.rows.proofs.Facts.{members_end}
+use Rattle.rows.proofs.Facts.{row, same_tree, as_row, part_object, same_part, NamesLeft, names_start, name_here, names_next, names_end}
+use Rattle.definitions.proofs.definitions.Body.{part_rows}
 use Rattle.tokens.specs.Spelling.{IsQuoted}
 
 -- no members, no fields
@@ -26,66 +28,65 @@ pub same_definition : {s t : List ℕ} {r : ℕ} (d e : DefinedRow s t r) → d.
 same_definition {s} d e =
     let z : fine d.definition ≡ fine e.definition = sym d.defines ∙ ap (definition_at s) (same_tree d.row e.row) ∙ e.defines in cc
 
-pub same_fields : {s t : List ℕ} {r : ℕ} (f g : FieldsRow s t r) → f.fields ≡ g.fields
+pub same_fields : {s t : List ℕ} {r : Option ℕ} (f g : FieldsRow s t r) → f.fields ≡ g.fields
 same_fields {s} f g = let z : fine f.fields ≡ fine g.fields = sym f.defines ∙ ap (fields_at s) (same_part f.part g.part) ∙ g.defines in cc
 
--- those not yet seen: `left` of them, the name of the first at row `here`
-pub record FieldsLeft (s t : List ℕ) (r here left : ℕ) (fields : LocatedFields) : Type 0 where
+-- the fields whose names are left, of those at row r
+pub record FieldsLeft (s t : List ℕ) (r : Option ℕ) (c : Children 1) (fields : LocatedFields) : Type 0 where
   pub rest : Members
-  pub ahead : MembersLeft s t here left rest
+  pub ahead : NamesLeft s t c rest
   pub defines : fields_at s rest ≡ fine fields
-  pub less : sizes_members rest < word t r 4
+  pub less : sizes_members rest < part_rows t r
 
--- the first of them: its name at row `here`, its definition behind it, and the others behind that
-pub record FieldHere (s t : List ℕ) (r here left : ℕ) (fields : LocatedFields) : Type 0 where
-  pub name : InTable t here
-  pub quoted : IsQuoted s (word t here 1) (word t here 2)
-  pub row : DefinedRow s t (here + 1)
-  pub less : word t (here + 1) 4 < word t r 4
+-- the first of them: its name at row n, its definition behind it; the others are left in d
+pub record FieldHere (s t : List ℕ) (r : Option ℕ) (n : ℕ) (d : Children 1) (fields : LocatedFields) : Type 0 where
+  pub name : InTable t n
+  pub quoted : IsQuoted s (word t n 1) (word t n 2)
+  pub row : DefinedRow s t (n + 1)
+  pub less : word t (n + 1) 4 < part_rows t r
   pub others : LocatedFields
-  pub adds : fields ≡ field (word t here 1) (name_of s (word t here 1) (word t here 2)) row.definition others
-  pub is : bare_fields fields ≡ fcons (name_of s (word t here 1) (word t here 2)) (bare row.definition) (bare_fields others)
-  pub behind : {x : Record} → Reads t (here + 1) x → FieldsLeft s t r x.next (left - 1) others
+  pub adds : fields ≡ field (word t n 1) (name_of s (word t n 1) (word t n 2)) row.definition others
+  pub is : bare_fields fields ≡ fcons (name_of s (word t n 1) (word t n 2)) (bare row.definition) (bare_fields others)
+  pub behind : FieldsLeft s t r d others
 
-module _ {s t : List ℕ} {r : ℕ} where
-  pub fields_none : r ≡ 0 → (f : FieldsRow s t r) → f.fields ≡ no_field
-  fields_none e f = fields_empty s (f.part.absent e) f.defines
+pub fields_none : {s t : List ℕ} (f : FieldsRow s t None) → f.fields ≡ no_field
+fields_none {s} f = fields_empty s (f.part.absent refl) f.defines
 
-  abbrev pub fields_start : (f : FieldsRow s t r) → 0 < r → {left : ℕ} → left ≡ word t r 3 → FieldsLeft s t r (r + 1) left f.fields
-  fields_start f l e =
-      let o = part_object f.part l in
-      record { rest = f.part.members; ahead = members_start o e; defines = f.defines; less = omega (arith, (row (as_row o)).subtree) }
+module _ {s t : List ℕ} {c : Children 1} where
+  abbrev pub fields_start : {r : ℕ} (f : FieldsRow s t (Some r)) → Begins t r c → FieldsLeft s t (Some r) c f.fields
+  fields_start f b =
+      let o = part_object f.part refl in
+      record { rest = f.part.members; ahead = names_start o b; defines = f.defines; less = omega (arith, (row (as_row o)).subtree) }
 
   -- all members are ahead
-  pub start_rest : (f : FieldsRow s t r) (l : 0 < r) {left : ℕ} (e : left ≡ word t r 3) → (fields_start f l e).rest ≡ f.part.members
-  unfolding fields_start
-  start_rest f l e = refl
+  pub start_rest : {r : ℕ} (f : FieldsRow s t (Some r)) (b : Begins t r c) → (fields_start f b).rest ≡ f.part.members
+  start_rest f b = refl
 
-  module _ {here left : ℕ} {fields : LocatedFields} (a : FieldsLeft s t r here left fields) where
-    pub fields_end : left ≤ 0 → fields ≡ no_field
-    fields_end l = fields_empty s (members_end a.ahead l) a.defines
+  module _ {r : Option ℕ} {fields : LocatedFields} (a : FieldsLeft s t r c fields) where
+    pub fields_end : c.left ≡ 0 → fields ≡ no_field
+    fields_end l = fields_empty s (names_end a.ahead l) a.defines
 
-    abbrev pub field_here : 0 < left → FieldHere s t r here left fields
-    field_here l =
-        let m = member_here a.ahead l in
-        let k = added_fine (word t here 1) (name_of s (word t here 1) (word t here 2)) _ _ fields (sym (ap (fields_at s) m.is) ∙ a.defines) in
-        record {
-          name = m.in_table;
-          quoted = m.quoted;
-          row = record { row = m.value; definition = k.definition; defines = k.defines };
-          less = omega (arith, (row m.value).subtree, a.less, ap sizes_members m.is);
-          others = k.others;
-          adds = k.adds;
-          is = ap bare_fields k.adds;
-          behind = λ p. record {
-            rest = m.others;
-            ahead = members_next a.ahead m p.next;
-            defines = k.define;
-            less = omega (arith, a.less, ap sizes_members m.is);
-          };
-        }
+    module _ {n : ℕ} {d : Children 1} (p : Passes c n d) where
+      abbrev pub field_here : FieldHere s t r n d fields
+      field_here =
+          let m = name_here a.ahead p in
+          let k = added_fine (word t n 1) (name_of s (word t n 1) (word t n 2)) _ _ fields (sym (ap (fields_at s) m.is) ∙ a.defines) in
+          record {
+            name = m.in_table;
+            quoted = m.quoted;
+            row = record { row = m.value; definition = k.definition; defines = k.defines };
+            less = omega (arith, (row m.value).subtree, a.less, ap sizes_members m.is);
+            others = k.others;
+            adds = k.adds;
+            is = ap bare_fields k.adds;
+            behind = record {
+              rest = m.others;
+              ahead = names_next a.ahead p m;
+              defines = k.define;
+              less = omega (arith, a.less, ap sizes_members m.is);
+            };
+          }
 
-    -- the members behind it are those of the fields behind it
-    pub behind_rest : (l : 0 < left) {x : Record} (p : Reads t (here + 1) x) → ((field_here l).behind p).rest ≡ (member_here a.ahead l).others
-    unfolding field_here
-    behind_rest l p = refl
+      -- the members behind it are those of the fields behind it
+      pub behind_rest : field_here.behind.rest ≡ (name_here a.ahead p).others
+      behind_rest = refl

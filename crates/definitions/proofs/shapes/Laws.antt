@@ -2,7 +2,9 @@
 use Prim.Native.Nat.{ℕ, ◌+◌, ◌-◌, ◌<◌}
 use mathlib.Core.Path.{◌≡◌, refl, sym, ap, subst, ◌∙◌}
 use mathlib.Core.Bool.{Bool, true, false, cond}
-use mathlib.Core.Option.{Option, none, some}
+use mathlib.Core.Logic.{◌⊎◌, inl, inr}
+use Rattle.std.specs.Prelude.{Option, Some, None}
+use Rattle.std.proofs.Math.Option.{Option as MathOption, none, some}
 use mathlib.Core.List.{List}
 use native.Mathlib.Omega.{arith}
 use native.Mathlib.Decide.{ℕ_discrete}
@@ -22,19 +24,19 @@ use Rattle.rows.specs.Finding.{Finds}
 use Rattle.definitions.specs.Shapes.{DefinedRow, type_in, TypeRow, generic_in, GenericRow, FieldsRow, OfObjectsRow}
 use Rattle.rows.specs.declared.records.Record.{Record}
 use Rattle.definitions.specs.declared.types.TypeName.{TypeName}
-use Rattle.definitions.specs.declared.types.TypeName.TheVariants.{Unknown}
+use Rattle.definitions.specs.declared.definitions.FaultCode.TheVariants.{NoDefinition, UnknownType}
 use Rattle.definitions.specs.declared.types.Generic.{Generic}
-use Rattle.definitions.specs.declared.types.Generic.TheVariants.{Array, Map, Object, Other}
+use Rattle.definitions.specs.declared.types.Generic.TheVariants.{Array, Map, Object}
 use Rattle.chars.specs.Strings.{characters, part}
 use Rattle.definitions.proofs.definitions.Laws.{Single, single}
-use Rattle.definitions.proofs.definitions.Body.{Sought, sought, sought_part, part_rows}
-use Rattle.rows.proofs.Facts.{kind_of, members_in, row, string_row, string_read, object_row, as_object}
+use Rattle.definitions.proofs.definitions.Body.{part_found, found_less, has_part, part_rows}
+use Rattle.rows.proofs.Facts.{kind_of, members_in, row, string_row, string_read, object_row, as_object, found}
 use Rattle.definitions.proofs.definitions.OtherKinds.{no_definition}
 use Rattle.model.specs.Subtype.{of_objects}
 
 -- ---- type names
 
-pub type_fine : (p : ℕ) (x : Option Named) (d : Located) → type_at p x ≡ fine d → (t : Named) × (x ≡ some t) × (d ≡ named-at p t)
+pub type_fine : (p : ℕ) (x : MathOption Named) (d : Located) → type_at p x ≡ fine d → (t : Named) × (x ≡ some t) × (d ≡ named-at p t)
 type_fine p none d q = never (cc)
 type_fine p (some t) d q = (t, refl, cc)
 
@@ -45,7 +47,7 @@ fine_kind s n d q h = go (ℕ_discrete (kind_of n) 8)
   where
     go : Dec (kind_of n ≡ 8) → kind_of n ≡ 8
     go (yes e) = e
-    go (no e) = let z : faulty 10 (place_of n) ≡ fine d = sym (no_definition s n h e) ∙ q in never (cc)
+    go (no e) = let z : faulty NoDefinition (place_of n) ≡ fine d = sym (no_definition s n h e) ∙ q in never (cc)
 
 fine_count : (s : List ℕ) (p : ℕ) (ms : Members) (d : Located) → single_at s p ms ≡ fine d → count_members ms ≡ 1
 fine_count s p no_member d q = cc
@@ -68,11 +70,11 @@ module _ {s t : List ℕ} {r : ℕ} (w : Rowed s t r) {d : Located} (q : definit
   generic_member h = fine_single ((row w).kind ∙ fine_kind s w.tree d q (λ e. h ((row w).kind ∙ e)))
 
 -- what the definition is, by the generic type that the name is
-abbrev pub Shaped : List ℕ → ℕ → Node → Generic → Located → Type 0
-Shaped s p n Array d = (e : Located) × (definition_at s n ≡ fine e) × (d ≡ array_at p e)
-Shaped s p n Map d = (e : Located) × (definition_at s n ≡ fine e) × (d ≡ map_at p e)
-Shaped s p n Object d = body_at s p n ≡ fine d
-Shaped s p n Other d = ⊥
+abbrev pub Shaped : List ℕ → ℕ → Node → Option Generic → Located → Type 0
+Shaped s p n (Some Array) d = (e : Located) × (definition_at s n ≡ fine e) × (d ≡ array_at p e)
+Shaped s p n (Some Map) d = (e : Located) × (definition_at s n ≡ fine e) × (d ≡ map_at p e)
+Shaped s p n (Some Object) d = body_at s p n ≡ fine d
+Shaped s p n None d = ⊥
 
 mapped_fine : (f : Located → Located) (x : Defined Located) (d : Located) → if_fine f x ≡ fine d → (e : Located) × (x ≡ fine e) × (d ≡ f e)
 mapped_fine f (faulty c p) d q = never (cc)
@@ -84,8 +86,8 @@ unfolding generic_of
 shaped s p i k n d = go (same k (text "Array")) (same k (text "Map")) (same k (text "Object"))
   where
     go : (a m b : Bool)
-        → cond a (if_fine (array_at p) (definition_at s n)) (cond m (if_fine (map_at p) (definition_at s n)) (cond b (body_at s p n) (faulty 11 i))) ≡ fine d
-        → Shaped s p n (cond a Array (cond m Map (cond b Object Other))) d
+        → cond a (if_fine (array_at p) (definition_at s n)) (cond m (if_fine (map_at p) (definition_at s n)) (cond b (body_at s p n) (faulty UnknownType i))) ≡ fine d
+        → Shaped s p n (cond a (Some Array) (cond m (Some Map) (cond b (Some Object) None))) d
     go true m b q = mapped_fine (array_at p) (definition_at s n) d q
     go false true b q = mapped_fine (map_at p) (definition_at s n) d q
     go false false true q = q
@@ -101,10 +103,10 @@ pub record BodyAt (s : List ℕ) (n : Node) (required optional : LocatedFields) 
 
 both_fine : (o : Option ℕ) (p : ℕ) (x y : Defined LocatedFields) (d : Located) → unshared o (both_fields p x y) ≡ fine d
     → (r : LocatedFields) × (q : LocatedFields) × (x ≡ fine r) × (y ≡ fine q) × (d ≡ object-at p r q)
-both_fine none p (faulty c i) y d q = never (cc)
-both_fine none p (fine r) (faulty c i) d q = never (cc)
-both_fine none p (fine r) (fine o) d q = (r, o, refl, refl, cc)
-both_fine (some i) p x y d q = never (cc)
+both_fine None p (faulty c i) y d q = never (cc)
+both_fine None p (fine r) (faulty c i) d q = never (cc)
+both_fine None p (fine r) (fine o) d q = (r, o, refl, refl, cc)
+both_fine (Some i) p x y d q = never (cc)
 
 pub body_fine : (s : List ℕ) (p : ℕ) (n : Node) (d : Located) → body_at s p n ≡ fine d
     → (r : LocatedFields) × (o : LocatedFields) × BodyAt s n r o × (d ≡ object-at p r o)
@@ -125,11 +127,11 @@ body_fine s p (object f e ms) d q = go (part_at s (text "required") ms) (part_at
 -- ---- by the row that was read
 
 -- the generic type of such a definition is its name's, and it names no type
-shape_names : (s : List ℕ) (p : ℕ) (n : Node) (g : Generic) (d : Located) → Shaped s p n g d → (g ≡ generic_in d) × (Unknown ≡ type_in d)
-shape_names s p n Array d x = (sym (ap generic_in x.2), sym (ap type_in x.2))
-shape_names s p n Map d x = (sym (ap generic_in x.2), sym (ap type_in x.2))
-shape_names s p n Object d x = let e = (body_fine s p n d x).3 in (sym (ap generic_in e), sym (ap type_in e))
-shape_names s p n Other d x = absurd x
+shape_names : (s : List ℕ) (p : ℕ) (n : Node) (g : Option Generic) (d : Located) → Shaped s p n g d → (g ≡ generic_in d) × (None ≡ type_in d)
+shape_names s p n (Some Array) d x = (sym (ap generic_in x.2), sym (ap type_in x.2))
+shape_names s p n (Some Map) d x = (sym (ap generic_in x.2), sym (ap type_in x.2))
+shape_names s p n (Some Object) d x = let e = (body_fine s p n d x).3 in (sym (ap generic_in e), sym (ap type_in e))
+shape_names s p n None d x = absurd x
 
 module _ {s t : List ℕ} {r : ℕ} (d : DefinedRow s t r) where
   -- its one member, where it is no string
@@ -142,11 +144,11 @@ module _ {s t : List ℕ} {r : ℕ} (d : DefinedRow s t r) where
   shape : (h : word t r 0 ≡ 6 → ⊥) → Shaped s (word t r 1) (one_member h).value.tree (generic_of name_under) d.definition
   shape h = let u = one_member h in shaped s (word t r 1) (word t (r + 1) 1) name_under u.value.tree d.definition u.is
 
-  names : (word t r 0 ≡ 6 → ⊥) → (generic_of name_under ≡ generic_in d.definition) × (Unknown ≡ type_in d.definition)
+  names : (word t r 0 ≡ 6 → ⊥) → (generic_of name_under ≡ generic_in d.definition) × (None ≡ type_in d.definition)
   names h = shape_names s (word t r 1) (one_member h).value.tree (generic_of name_under) d.definition (shape h)
 
   -- so it has a generic type
-  pub has_generic : (word t r 0 ≡ 6 → ⊥) → Other ≡ generic_in d.definition → ⊥
+  pub has_generic : (word t r 0 ≡ 6 → ⊥) → None ≡ generic_in d.definition → ⊥
   has_generic h q = rw ((names h).0 ∙ sym q) at (shape h)
 
   -- the type that it names, where it is a string
@@ -159,12 +161,12 @@ no_string p h e = h (p.kind ∙ e)
 
 module _ {s t : List ℕ} {r : ℕ} {x : Record} (p : Reads t r x) where
   -- `type_at`
-  pub type_none : (x.kind ≡ 6 → ⊥) → TypeRow s t r Unknown
+  pub type_none : (x.kind ≡ 6 → ⊥) → TypeRow s t r None
   type_none h = record { tells = λ d. (names d (no_string p h)).1 }
 
   -- k are the bytes between its quotes
   pub type_named : x.kind ≡ 6 → {k : List ℕ} → k ≡ part s (x.first + 1) (x.end - 1)
-      → {g : TypeName} → g ≡ type_name (named_by (characters k)) → TypeRow s t r g
+      → {g : Option TypeName} → g ≡ type_name (named_by (characters k)) → TypeRow s t r g
   type_named h b e = record {
     tells = λ d.
         (let n = string_type d p h in
@@ -172,12 +174,12 @@ module _ {s t : List ℕ} {r : ℕ} {x : Record} (p : Reads t r x) where
   }
 
   -- `generic_at`
-  pub generic_none : x.kind ≡ 6 → GenericRow s t r Other
+  pub generic_none : x.kind ≡ 6 → GenericRow s t r None
   generic_none h = record { tells = λ d. sym (ap generic_in (string_type d p h).2) }
 
   -- k are the bytes between the quotes of its name
   pub generic_named : (x.kind ≡ 6 → ⊥) → {y : Record} → Reads t (r + 1) y → {k : List ℕ} → k ≡ part s (y.first + 1) (y.end - 1)
-      → {g : Generic} → g ≡ generic_of (characters k) → GenericRow s t r g
+      → {g : Option Generic} → g ≡ generic_of (characters k) → GenericRow s t r g
   generic_named h {y} q b {g} e = record {
     tells = λ d.
         (let z : g ≡ generic_of (name_under d) = e ∙ ap (λ (k : List ℕ). generic_of (characters k)) b ∙ rw (q.first, q.last) in
@@ -208,10 +210,10 @@ Inside s t r (array_at p e) = Element s t r e
 Inside s t r (map_at p e) = Element s t r e
 Inside s t r (object-at p q o) = ObjectBody s t r q o
 
-shape_inside : {s t : List ℕ} {r : ℕ} (d : Located) (u : Under s t r d) (p : ℕ) (g : Generic) → Shaped s p u.value.tree g d → Inside s t r d
-shape_inside {s} {t} {r} d u p Array x = subst (Inside s t r) (sym x.2) (record { value = u.value; defines = x.1; less = u.less })
-shape_inside {s} {t} {r} d u p Map x = subst (Inside s t r) (sym x.2) (record { value = u.value; defines = x.1; less = u.less })
-shape_inside {s} {t} {r} d u p Object x =
+shape_inside : {s t : List ℕ} {r : ℕ} (d : Located) (u : Under s t r d) (p : ℕ) (g : Option Generic) → Shaped s p u.value.tree g d → Inside s t r d
+shape_inside {s} {t} {r} d u p (Some Array) x = subst (Inside s t r) (sym x.2) (record { value = u.value; defines = x.1; less = u.less })
+shape_inside {s} {t} {r} d u p (Some Map) x = subst (Inside s t r) (sym x.2) (record { value = u.value; defines = x.1; less = u.less })
+shape_inside {s} {t} {r} d u p (Some Object) x =
     let b = body_fine s p u.value.tree d x in
     subst (Inside s t r) (sym b.3) (record {
       object = as_object u.value ((row u.value).kind ∙ b.2.object);
@@ -221,7 +223,7 @@ shape_inside {s} {t} {r} d u p Object x =
       first = b.2.first;
       second = b.2.second;
     })
-shape_inside d u p Other x = absurd x
+shape_inside d u p None x = absurd x
 
 pub inside : {s t : List ℕ} {r : ℕ} (d : DefinedRow s t r) → Inside s t r d.definition
 inside {s} {t} {r} d = go (ℕ_discrete (word t r 0) 6)
@@ -247,11 +249,11 @@ pub record Fielded (s t : List ℕ) (r : ℕ) (a : Def) : Type 0 where
   pub is : a ≡ object-of (bare_fields required) (bare_fields optional)
 
 -- by the generic type of the definition a
-abbrev Made : List ℕ → List ℕ → ℕ → Def → Generic → Type 0
-Made s t r a Array = Within s t r array_of a
-Made s t r a Map = Within s t r map_of a
-Made s t r a Object = Fielded s t r a
-Made s t r a Other = (k : Named) × (a ≡ named k)
+abbrev Made : List ℕ → List ℕ → ℕ → Def → Option Generic → Type 0
+Made s t r a (Some Array) = Within s t r array_of a
+Made s t r a (Some Map) = Within s t r map_of a
+Made s t r a (Some Object) = Fielded s t r a
+Made s t r a None = (k : Named) × (a ≡ named k)
 
 module _ {s t : List ℕ} {r : ℕ} (d : DefinedRow s t r) where
   made : Made s t r (bare d.definition) (generic_in d.definition)
@@ -263,20 +265,20 @@ module _ {s t : List ℕ} {r : ℕ} (d : DefinedRow s t r) where
       go (map_at p e) i = record { inner = record { row = i.value; definition = e; defines = i.defines }; less = i.less; is = refl }
       go (object-at p f o) i = record { required = f; optional = o; body = i; is = refl }
 
-  made_by : (g : Generic) → g ≡ generic_in d.definition → Made s t r (bare d.definition) g
+  made_by : (g : Option Generic) → g ≡ generic_in d.definition → Made s t r (bare d.definition) g
   made_by g q = subst (Made s t r (bare d.definition)) (sym q) made
 
-  pub in_name : Other ≡ generic_in d.definition → (k : Named) × (bare d.definition ≡ named k)
-  in_name q = made_by Other q
+  pub in_name : None ≡ generic_in d.definition → (k : Named) × (bare d.definition ≡ named k)
+  in_name q = made_by None q
 
-  pub in_array : Array ≡ generic_in d.definition → Within s t r array_of (bare d.definition)
-  in_array q = made_by Array q
+  pub in_array : Some Array ≡ generic_in d.definition → Within s t r array_of (bare d.definition)
+  in_array q = made_by (Some Array) q
 
-  pub in_map : Map ≡ generic_in d.definition → Within s t r map_of (bare d.definition)
-  in_map q = made_by Map q
+  pub in_map : Some Map ≡ generic_in d.definition → Within s t r map_of (bare d.definition)
+  in_map q = made_by (Some Map) q
 
-  pub in-object : Object ≡ generic_in d.definition → Fielded s t r (bare d.definition)
-  in-object q = made_by Object q
+  pub in-object : Some Object ≡ generic_in d.definition → Fielded s t r (bare d.definition)
+  in-object q = made_by (Some Object) q
 
 -- ---- its fields
 
@@ -287,28 +289,31 @@ part_kind s (array f e ns) q = never (cc)
 part_kind s (object f e ns) q = refl
 
 -- the fields at the row that was found for a part
-pub part_fields : {s t : List ℕ} {r : ℕ} (v : ℕ) {x : Part} {ms : Members} {fs : LocatedFields} → Sought s t r v x → x ≡ members_with ms (fine fs)
-    → (w : PartRow s t v) × (fields_at s w.members ≡ fine fs)
-part_fields {s} v {x} {ms} {fs} k q =
-    let p = sought_part v k (λ l. (row (k.value l)).kind ∙ part_kind s (k.value l).tree (sym (k.is l) ∙ q)) in
+pub part_fields : {s t key : List ℕ} {r : ℕ} (o : ObjectRow s t r) (v : Option ℕ) {ms : Members} {fs : LocatedFields}
+    → Finds s t r key v → part_at s key o.members ≡ members_with ms (fine fs) → (w : PartRow s t v) × (fields_at s w.members ≡ fine fs)
+part_fields {s} {t} o v {ms} {fs} f q =
+    let p = has_part o v f (λ w e.
+    (let g = rw e at f in
+    let n = (found o g).value in
+    (row n).kind ∙ part_kind s n.tree (sym (part_found o g) ∙ q))) in
     let z : fields_at s p.at.members ≡ fine fs = cc p.is in
     (p.at, z)
 
 module _ {s t : List ℕ} {r : ℕ} {required optional : LocatedFields} (b : ObjectBody s t r required optional) where
-  abbrev pub fields_found : {key : List ℕ} {v : ℕ} {ms : Members} {fs : LocatedFields}
+  abbrev pub fields_found : {key : List ℕ} {v : Option ℕ} {ms : Members} {fs : LocatedFields}
       → Finds s t (r + 2) key v → part_at s key b.object.members ≡ members_with ms (fine fs) → FieldsRow s t v
-  fields_found {v = v} {fs = fs} f q = let x = part_fields v (sought b.object f) q in record { part = x.0; fields = fs; defines = x.1 }
+  fields_found {v = v} {fs = fs} f q = let x = part_fields b.object v f q in record { part = x.0; fields = fs; defines = x.1 }
 
-  pub part_less : {key : List ℕ} {v : ℕ} → Finds s t (r + 2) key v → part_rows t v < word t r 4
-  part_less f = omega (arith, (sought b.object f).less, b.less)
+  pub part_less : {key : List ℕ} {v : Option ℕ} → Finds s t (r + 2) key v → part_rows t v < word t r 4
+  part_less {v = v} f = omega (arith, found_less b.object v f, b.less)
 
 -- ---- definitions that only objects meet
 
-abbrev pub objects_by : Generic → Bool
-objects_by Array = false
-objects_by Map = true
-objects_by Object = true
-objects_by Other = false
+abbrev pub objects_by : Option Generic → Bool
+objects_by (Some Array) = false
+objects_by (Some Map) = true
+objects_by (Some Object) = true
+objects_by None = false
 
 pub objects_in : (d : Located) → objects_by (generic_in d) ≡ of_objects (bare d)
 objects_in (named-at p t) = refl
@@ -316,5 +321,16 @@ objects_in (array_at p d) = refl
 objects_in (map_at p d) = refl
 objects_in (object-at p r o) = refl
 
-pub objects_row : {s t : List ℕ} {r : ℕ} {g : Generic} → GenericRow s t r g → (k : Generic) → g ≡ k → OfObjectsRow s t r (objects_by k)
-objects_row h k e = record { tells = λ d. ap objects_by (sym e ∙ h.tells d) ∙ objects_in d.definition }
+module _ {s t : List ℕ} {r : ℕ} {g : Option Generic} (h : GenericRow s t r g) where
+  objects_row : (k : Option Generic) → g ≡ k → OfObjectsRow s t r (objects_by k)
+  objects_row k e = record { tells = λ d. ap objects_by (sym e ∙ h.tells d) ∙ objects_in d.definition }
+
+  pub no_generic : g ≡ None → OfObjectsRow s t r false
+  no_generic e = objects_row None e
+
+  pub no_objects : {k : Generic} → g ≡ Some k → k ≡ Array → OfObjectsRow s t r false
+  no_objects e i = objects_row (Some Array) (e ∙ ap (λ (k : Generic). Some k) i)
+
+  pub objects : {k : Generic} → g ≡ Some k → (k ≡ Map) ⊎ (k ≡ Object) → OfObjectsRow s t r true
+  objects e (inl i) = objects_row (Some Map) (e ∙ ap (λ (k : Generic). Some k) i)
+  objects e (inr i) = objects_row (Some Object) (e ∙ ap (λ (k : Generic). Some k) i)

@@ -1,7 +1,7 @@
 -- The words that names are compared with are spelled plainly, and what a name that is one of them names.
 use Prim.Native.Nat.{ℕ}
-use mathlib.Core.Path.{◌≡◌, refl, ap}
-use mathlib.Core.Bool.{true}
+use mathlib.Core.Path.{◌≡◌, refl, sym, ap, ◌∙◌}
+use mathlib.Core.Bool.{Bool, true}
 use mathlib.Core.List.{List}
 use Rattle.model.specs.Text.{text, same}
 use Rattle.chars.specs.Characters.{char_from, char_at}
@@ -41,10 +41,14 @@ spelled = record {
   optional = refl;
 }
 
--- a name that is the word w names what w names
-module _ (w n : List ℕ) (h : same n w ≡ true) where
-  pub type_by : type_name (named_by n) ≡ type_name (named_by w)
-  type_by = ap (λ (k : List ℕ). type_name (named_by k)) (same_true n w h)
+-- a name n was compared with a plainly spelled word w
+module _ {w : List ℕ} (p : characters w ≡ w) (n : List ℕ) {b : Bool} (e : b ≡ same n (characters w)) where
+  pub compared : {c : Bool} → b ≡ c → same n w ≡ c
+  compared h = sym (rw p at e) ∙ h
 
-  pub generic_by : generic_of n ≡ generic_of w
-  generic_by = ap generic_of (same_true n w h)
+  -- where it is the word, it names what the word names
+  pub type_by : b ≡ true → type_name (named_by w) ≡ type_name (named_by n)
+  type_by h = ap (λ (k : List ℕ). type_name (named_by k)) (sym (same_true n w (compared h)))
+
+  pub generic_by : b ≡ true → generic_of w ≡ generic_of n
+  generic_by h = ap generic_of (sym (same_true n w (compared h)))

@@ -3,11 +3,11 @@ use Prim.Native.Nat.{ℕ, ◌+◌, ◌-◌, ◌≤◌, ◌<◌}
 use mathlib.Core.Path.{◌≡◌, refl, ap, ◌∙◌}
 use mathlib.Core.List.{List}
 use native.Mathlib.Omega.{arith}
-use Rattle.syntax.specs.Tree.{array, Nodes, none, more}
+use Rattle.syntax.specs.Tree.{Nodes, none, more}
 use Rattle.syntax.specs.Rows.{count, size}
-use Rattle.syntax.specs.Holding.{word, Holds, HoldsAll, Placed, PlacedAll}
-use Rattle.rows.specs.Records.{Rowed}
-use Rattle.rows.proofs.records.Trees.{elements_in, row_of, array_row}
+use Rattle.syntax.specs.Holding.{word, HoldsAll, PlacedAll}
+use Rattle.rows.specs.Records.{Rowed, ArrayRow}
+use Rattle.rows.proofs.records.Trees.{row_of}
 
 -- those not yet seen: `left` of them, from row `here` on
 pub record ElementsLeft (s t : List ℕ) (here left : ℕ) (rest : Nodes) : Type 0 where
@@ -23,12 +23,8 @@ pub record ElementHere (s t : List ℕ) (here : ℕ) (rest : Nodes) : Type 0 whe
   pub behind : HoldsAll t (here + word t here 4) others
   pub placed : PlacedAll s others
 
-pub elements_start : {s t : List ℕ} {r left : ℕ} (w : Rowed s t r) → word t r 0 ≡ 7 → left ≡ word t r 3 → ElementsLeft s t (r + 1) left (elements_in w.tree)
-elements_start {s} {t} {r} w h e =
-    let i = array_row w h in
-    let g : Holds t r (array (word t r 1) (word t r 2) (elements_in w.tree)) = rw i at w.holds in
-    let q : Placed s (array (word t r 1) (word t r 2) (elements_in w.tree)) = rw i at w.placed in
-    record { holds = g.1; placed = q.2; counts = e ∙ g.0.direct }
+pub elements_start : {s t : List ℕ} {r left : ℕ} (o : ArrayRow s t r) → left ≡ word t r 3 → ElementsLeft s t (r + 1) left o.elements
+elements_start o e = record { holds = o.holds.1; placed = o.placed.2; counts = e ∙ o.holds.0.direct }
 
 module _ {s t : List ℕ} {here left : ℕ} where
   first_element : (rest : Nodes) → ElementsLeft s t here left rest → 0 < left → ElementHere s t here rest

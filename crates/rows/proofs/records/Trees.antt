@@ -1,9 +1,10 @@
 -- What a row says of its tree, by its kind and as it was read; objects among the values of a table.
-use Prim.Native.Nat.{ℕ, zero, suc, ◌+◌, ◌*◌, ◌≤◌, ◌<◌}
+use Prim.Native.Nat.{ℕ, ◌+◌, ◌*◌, ◌≤◌, ◌<◌}
 use mathlib.Core.Path.{◌≡◌, refl, sym, ap, ◌∙◌}
 use mathlib.Core.List.{List}
 use native.Mathlib.Omega.{arith}
 use lib.ListN.{length}
+use Rattle.std.specs.Prelude.{Option, Some, None}
 use Rattle.tokens.specs.Spelling.{IsQuoted}
 use Rattle.tokens.specs.declared.tokens.Kind.{Kind}
 use Rattle.tokens.specs.declared.tokens.Kind.TheVariants.{Quoted}
@@ -12,7 +13,7 @@ use Rattle.syntax.specs.Tree.{Node, scalar, array, object, Nodes, none, Members,
 use Rattle.syntax.specs.Rows.{row_words, count, count_members, size}
 use Rattle.syntax.specs.Holding.{word, Row, Holds, Placed}
 use Rattle.syntax.proofs.Facts.{kind_small, kind_same, holds_same, size_pos}
-use Rattle.rows.specs.Records.{InTable, Reads, Rowed, ObjectRow, PartRow}
+use Rattle.rows.specs.Records.{InTable, Reads, Rowed, ObjectRow, ArrayRow, PartRow}
 use Rattle.rows.specs.declared.records.Record.{Record}
 
 -- ---- trees by their parts
@@ -132,16 +133,29 @@ as_object {s} {t} {r} w h = record {
   placed = rw (object_row w h) at w.placed;
 }
 
--- the members under "required" or "optional", where there is such a row
-abbrev pub part_object : {s t : List ℕ} {r : ℕ} (p : PartRow s t r) → 0 < r → ObjectRow s t r
-part_object p l = record {
-  first = (p.present l).0;
-  end = (p.present l).1;
-  members = p.members;
-  holds = (p.present l).2;
-  placed = (p.present l).3;
+-- the same of an array
+abbrev pub as_array : {s t : List ℕ} {r : ℕ} (w : Rowed s t r) → word t r 0 ≡ 7 → ArrayRow s t r
+as_array {s} {t} {r} w h = record {
+  first = word t r 1;
+  end = word t r 2;
+  elements = elements_in w.tree;
+  holds = rw (array_row w h) at w.holds;
+  placed = rw (array_row w h) at w.placed;
 }
 
-pub same_part : {s t : List ℕ} {r : ℕ} (o p : PartRow s t r) → o.members ≡ p.members
-same_part {r = zero} o p = o.absent refl ∙ sym (p.absent refl)
-same_part {r = suc r} o p = same_members (part_object o (omega arith)) (part_object p (omega arith))
+abbrev pub array_as_row : {s t : List ℕ} {r : ℕ} → ArrayRow s t r → Rowed s t r
+array_as_row o = record { tree = array o.first o.end o.elements; holds = o.holds; placed = o.placed }
+
+-- the members under "required" or "optional", where there is such a row
+abbrev pub part_object : {s t : List ℕ} {r : Option ℕ} (p : PartRow s t r) {o : ℕ} → r ≡ Some o → ObjectRow s t o
+part_object p e = record {
+  first = (p.present e).0;
+  end = (p.present e).1;
+  members = p.members;
+  holds = (p.present e).2;
+  placed = (p.present e).3;
+}
+
+pub same_part : {s t : List ℕ} {r : Option ℕ} (o p : PartRow s t r) → o.members ≡ p.members
+same_part {r = None} o p = o.absent refl ∙ sym (p.absent refl)
+same_part {r = Some r} o p = same_members (part_object o refl) (part_object p refl)
