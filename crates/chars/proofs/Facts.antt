@@ -1,7 +1,7 @@
 -- What the crates above cite.
 
 -- runs of bytes
-pub use Rattle.chars.proofs.runs.Laws.{run_end, run_ended, run-from, run_left, run_next, run_over, run_stop, run_within}
+pub use Rattle.chars.proofs.runs.Laws.{run_end, run_ended, run-from, run_next, run_stop, run_within}
 -- classes of bytes, and tests
 pub use Rattle.chars.proofs.bytes.Laws.{beside, digit_in, highest_most, highest_of, in_text, lowest_least, lowest_of, outside}
 -- the last number that passes a test

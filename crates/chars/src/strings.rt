@@ -30,7 +30,23 @@ pub fn string_end(text: &[u8], at: usize) -> Reading<usize>
     }
 }
 
+// Whether two names have the same bytes.
+fn equal(a: &[u8], b: &[u8]) -> bool
+    ensures { result ≡ same a.now b.now }
+{
+    if a.len() != b.len() {
+        return false;
+    }
+    for i in 0..a.len() {
+        if a[i] != b[i] {
+            return false;
+        }
+    }
+    true
+}
+
 // Whether two names have the same characters, compared one by one.
+// It is called in two places, so that the compiler keeps it out of `same_name`, whose tests of bytes then stand in its callers.
 fn same_characters(a: &[u8], b: &[u8]) -> bool
     ensures { result ≡ same (characters a.now) (characters b.now) }
 {
@@ -53,14 +69,6 @@ fn same_characters(a: &[u8], b: &[u8]) -> bool
     }
 }
 
-// The same of names that may have the same bytes. It stays out of `same_name`, whose tests of bytes then stand in its callers.
-#[inline(never)]
-fn same_bytes_or_characters(a: &[u8], b: &[u8]) -> bool
-    ensures { result ≡ same (characters a.now) (characters b.now) }
-{
-    a == b || same_characters(a, b)
-}
-
 // Whether two names, each as the bytes between its quotes, have the same characters.
 // Most begin with different bytes that stand for themselves, or have the same bytes.
 pub fn same_name(a: &[u8], b: &[u8]) -> bool
@@ -74,6 +82,10 @@ pub fn same_name(a: &[u8], b: &[u8]) -> bool
                 return false;
             }
         }
+        return same_characters(a, b);
     }
-    same_bytes_or_characters(a, b)
+    if equal(a, b) {
+        return true;
+    }
+    same_characters(a, b)
 }

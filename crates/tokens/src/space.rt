@@ -4,11 +4,16 @@ ghost use Rattle.tokens.specs.Space.{is_space, skip};
 
 use chars::run_end;
 
-#[tactic(auto, unfolding(crate::specs::Space::is_space))]
 fn is_space(b: u8) -> bool
     ensures { result ≡ is_space b }
 {
-    matches!(b, b' ' | b'\t' | b'\n' | b'\r')
+    match b {
+        b' ' => true,
+        b'\t' => true,
+        b'\n' => true,
+        b'\r' => true,
+        _ => false,
+    }
 }
 
 // The first place from `at` on that holds no space.

@@ -14,18 +14,31 @@ fn is_ordinary(b: u8) -> bool
     !matches!(b, b'"' | b'\\')
 }
 
-#[tactic(auto, unfolding(crate::specs::Runs::is_structural))]
 pub fn is_structural(b: u8) -> bool
     ensures { result ≡ is_structural b }
 {
-    matches!(b, b'[' | b'{' | b']' | b'}' | b':' | b',')
+    match b {
+        b'[' => true,
+        b'{' => true,
+        b']' => true,
+        b'}' => true,
+        b':' => true,
+        b',' => true,
+        _ => false,
+    }
 }
 
-#[tactic(auto, unfolding(crate::specs::Runs::is_atom, tokens::specs::Space::is_space))]
 fn is_atom(b: u8) -> bool
     ensures { result ≡ is_atom b }
 {
-    !matches!(b, b' ' | b'\t' | b'\n' | b'\r' | b'"') && !is_structural(b)
+    match b {
+        b' ' => false,
+        b'\t' => false,
+        b'\n' => false,
+        b'\r' => false,
+        b'"' => false,
+        _ => !is_structural(b),
+    }
 }
 
 // The place behind the ordinary bytes of a string at a place.

@@ -1,11 +1,10 @@
 -- A run of bytes that pass a test: a step of it, where it stops, its bounds.
-use mathlib.Core.Path.{◌≡◌, refl, sym, ◌∙◌}
+use mathlib.Core.Path.{◌≡◌, refl}
 use mathlib.Core.List.{List}
-use mathlib.Core.Bool.{Bool, true, false, not, cond}
+use mathlib.Core.Bool.{Bool, true, false, cond}
 use Prim.Native.Nat.{ℕ, zero, suc, ◌+◌, ◌-◌, ◌≤◌, ◌<◌}
 use native.Mathlib.Omega.{arith}
 use lib.ListN.{length}
-use borrow.Author.Tests.{not-true, not-false}
 use Rattle.model.proofs.Basics.{both}
 use Rattle.chars.specs.Bytes.{byte_at}
 use Rattle.chars.specs.Runs.{run_from, run}
@@ -26,14 +25,6 @@ module _ (p : ℕ → Bool) (s : List ℕ) where
       go : (k : ℕ) → run_from k p s i ≡ i
       go zero = refl
       go (suc k) = rw t
-
-  -- as a loop tests it: t is what the test tells of the byte at i
-  module _ (i : ℕ) {t : Bool} (told : t ≡ p (byte_at s i)) where
-    pub run_over : i < length s → not t ≡ false → run p s i ≡ run p s (i + 1)
-    run_over h n = run_next i h (sym told ∙ not-false t n)
-
-    pub run_left : not t ≡ true → run p s i ≡ i
-    run_left n = run_stop i (sym told ∙ not-true t n)
 
   from_bound : (k i : ℕ) → (i ≤ run_from k p s i) × (run_from k p s i ≤ i + k)
   unfolding run_from

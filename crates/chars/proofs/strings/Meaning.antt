@@ -1,18 +1,17 @@
 -- What the definitions mean: names are the same when their characters are, and characters are Unicode scalar values.
 use mathlib.Core.Path.{◌≡◌, refl, ap}
 use mathlib.Core.List.{List, [], ◌∷◌}
-use mathlib.Core.Bool.{true}
+use mathlib.Core.Bool.{true, false}
 use Prim.Native.Nat.{ℕ, zero, suc, ◌-◌}
 use lib.ListN.{length}
 use lib.Dec.{eqb}
-use lib.Pointwise.{pointwise, pointwise_decides}
-use borrow.Author.Tests.{eqb-true, eq-eqb}
+use borrow.Author.Tests.{eqb-true}
 use Rattle.chars.specs.declared.characters.Step.{Step}
 use Rattle.chars.specs.declared.characters.Step.TheVariants.{Char, Quote}
 use Rattle.chars.specs.Characters.{char_at}
 use Rattle.chars.specs.Strings.{values_on, chars_from, chars_at, characters}
 use Rattle.model.specs.Text.{same}
-use Rattle.model.proofs.Basics.{never, same_of}
+use Rattle.model.proofs.Basics.{never, same_of, by_test}
 use Rattle.chars.proofs.bytes.Laws.{and_ways}
 use Rattle.chars.proofs.characters.Laws.{Scalar, Ahead, char_ahead}
 use Rattle.std.specs.Prelude.{Ok, Err}
@@ -24,10 +23,12 @@ same_true [] (y ∷ ys) t = never (cc)
 same_true (x ∷ xs) [] t = never (cc)
 same_true (x ∷ xs) (y ∷ ys) t = and_ways (eqb x y) (same xs ys) t (λ u v. let e : x ≡ y = eqb-true x y u in let r : xs ≡ ys = same_true xs ys v in cc)
 
+pub other_of : (xs ys : List ℕ) → (xs ≡ ys → ⊥) → same xs ys ≡ false
+other_of xs ys n = by_test (same xs ys) (λ t. absurd (n (same_true xs ys t))) (λ t. t)
+
 -- names of the same bytes have the same characters
-pub same_names : (a b : List ℕ) → pointwise eqb a b ≡ true → same (characters a) (characters b) ≡ true
-same_names a b t =
-    same_of (characters a) (characters b) (ap characters ((pointwise_decides (λ x y. (eqb-true x y, eq-eqb x y)) a b).0 t))
+pub same_names : (a b : List ℕ) → same a b ≡ true → same (characters a) (characters b) ≡ true
+same_names a b t = same_of (characters a) (characters b) (ap characters (same_true a b t))
 
 abbrev pub Scalars : List ℕ → Type 0
 Scalars [] = Unit

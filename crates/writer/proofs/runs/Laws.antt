@@ -1,6 +1,6 @@
 -- Copying: the bytes of a run that were passed are copied.
 use Prim.Native.Nat.{ℕ, ◌+◌, ◌-◌, ◌≤◌, ◌<◌, max}
-use mathlib.Core.Path.{◌≡◌, refl, sym, ap, ◌∙◌}
+use mathlib.Core.Path.{◌≡◌, sym, ap, ◌∙◌}
 use mathlib.Core.Bool.{Bool, true}
 use mathlib.Core.List.{List}
 use native.Mathlib.Omega.{arith}
@@ -12,7 +12,7 @@ use Rattle.chars.specs.Bytes.{byte_at}
 use Rattle.chars.specs.Runs.{run}
 use Rattle.chars.specs.Strings.{part}
 use Rattle.chars.proofs.Facts.{run_end, run_next, run-from, run_within}
-use Rattle.tokens.proofs.Facts.{part_none, part_one, part_join}
+use Rattle.tokens.proofs.Facts.{part_one, part_join}
 use Rattle.writer.specs.Compact.{over}
 use Rattle.writer.proofs.Over.{length_over, over_byte}
 
@@ -40,14 +40,11 @@ run_length p s i = length_part s i (run p s i) (run-from p s i) (run_most p s i)
 pub run_room : (p : ℕ → Bool) (s : List ℕ) (i m : ℕ) → length (part s i (run p s i)) ≤ m → run p s i ≤ i + m
 run_room p s i m h = omega (arith, run_length p s i, run-from p s i)
 
-pub copying_none : (p : ℕ → Bool) (s : List ℕ) (at : ℕ) (before : List ℕ) → run p s at ≤ at + length before → Copying p s at before at before
-copying_none p s at before h = record { ahead = omega arith; within = omega arith; goes-on = refl; holds = rw (part_none s at); room = h }
-
 module _ {p : ℕ → Bool} {s : List ℕ} {at : ℕ} {before : List ℕ} {i : ℕ} {out : List ℕ} (g : Copying p s at before i out) where
   fits : length (part s at i) ≤ length before
   fits = omega (arith, length_part s at i g.ahead g.within, g.goes-on, run-from p s i)
 
-  pub copying_length : length out ≡ length before
+  copying_length : length out ≡ length before
   copying_length = ap length g.holds ∙ length_over before (part s at i) fits
 
   -- the run has ended
