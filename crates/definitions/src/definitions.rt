@@ -5,6 +5,7 @@ ghost use Rattle.rows.specs.Records.{InTable, Rowed, ObjectRow, PartRow};
 ghost use Rattle.definitions.specs.Definitions.{fault_number, fault, kind_fault, PartUnder, Defines, DefinesBody, DefinesFields, Shares};
 
 use crate::types::{Generic, generic_name, named_type};
+use chars::same_name;
 use rows::Tree;
 
 // Why a value is no definition.
@@ -79,14 +80,19 @@ fn first_shared(tree: Tree, required: Option<usize>, optional: Option<usize>) ->
     let Some(optional) = optional else {
         return Ok(());
     };
-    for row in tree.members(optional) {
+    let mut shared = Ok(());
+    'names: for row in tree.members(optional) {
         let name = tree.row_at(row);
         let key = tree.between(name.first, name.end);
-        if tree.find(required, key).is_some() {
-            return Err(Fault::at(FaultCode::SharedName, name.first));
+        for other in tree.members(required) {
+            let next = tree.row_at(other);
+            if same_name(key, tree.between(next.first, next.end)) {
+                shared = Err(Fault::at(FaultCode::SharedName, name.first));
+                break 'names;
+            }
         }
     }
-    Ok(())
+    shared
 }
 
 // The first fault of the value at a row as a definition.

@@ -3,34 +3,53 @@ use Prim.Native.Nat.{ℕ, ◌+◌, ◌-◌}
 use mathlib.Core.Path.{◌≡◌, refl, sym, ap, ◌∙◌}
 use mathlib.Core.Bool.{Bool, true, false, cond, ◌||◌}
 use mathlib.Core.List.{List}
-use Rattle.std.specs.Prelude.{Option, Some, None, Ok, Err, is_some}
+use Rattle.std.specs.Prelude.{Option, Some, None, Ok, Err}
 use Rattle.model.specs.Text.{same}
 use Rattle.chars.specs.Strings.{characters, part}
-use Rattle.syntax.specs.Tree.{Node, Members, no_member, member}
+use Rattle.syntax.specs.Tree.{Members, no_member, member}
 use Rattle.syntax.specs.Grammar.{name_of}
 use Rattle.definitions.specs.Definitions.{has_named, shared_at, shared_fault, fault, Shares}
-use Rattle.rows.specs.Finding.{lookup, Finds}
 use Rattle.rows.specs.Records.{Reads, ObjectRow, PartRow}
 use Rattle.rows.specs.Children.{Passes, Begins}
 use Rattle.rows.specs.declared.children.Children.{Children}
 use Rattle.rows.specs.declared.records.Record.{Record}
 use Rattle.definitions.specs.declared.definitions.FaultCode.TheVariants.{SharedName}
 use Rattle.rows.proofs.Facts.{same_members, part_object, MemberHere, member_read, NamesLeft, names_start, name_here, names_next, names_end}
-use Rattle.rows.proofs.Facts.{found, not_found}
 
--- ---- `find` finds a name exactly where a member has it
+-- ---- whether a member of the object at row q has a name: none before those that are left
 
-looked_up : (s key : List ℕ) (ms : Members) → has_named s key ms ≡ is_some (lookup s key ms)
-looked_up s key no_member = refl
-looked_up s key (member f e n ms) = choose (same key (name_of s f e)) (looked_up s key ms)
-  where
-    choose : (b : Bool) → has_named s key ms ≡ is_some (lookup s key ms) → b || has_named s key ms ≡ is_some (cond b (Some n) (lookup s key ms))
-    choose true h = refl
-    choose false h = h
+pub record Has (s t : List ℕ) (q : ℕ) (key : List ℕ) (b : Bool) : Type 0 where
+  pub tells : (o : ObjectRow s t q) → has_named s key o.members ≡ b
 
-pub has_found : {s t key : List ℕ} {r : ℕ} (v : Option ℕ) (o : ObjectRow s t r) → Finds s t r key v → has_named s key o.members ≡ is_some v
-has_found {s} {key = key} None o f = looked_up s key o.members ∙ ap (λ (x : Option Node). is_some x) (not_found o f)
-has_found {s} {key = key} (Some v) o f = looked_up s key o.members ∙ ap (λ (x : Option Node). is_some x) (found o f).is
+pub record Searching (s t : List ℕ) (q : ℕ) (key : List ℕ) (c : Children 1) : Type 0 where
+  pub rest : Members
+  pub ahead : NamesLeft s t c rest
+  pub stays : (o : ObjectRow s t q) → has_named s key o.members ≡ has_named s key rest
+
+module _ {s t : List ℕ} {q : ℕ} {key : List ℕ} {c : Children 1} where
+  pub search_start : (o : ObjectRow s t q) → Begins t q c → Searching s t q key c
+  search_start o b = record { rest = o.members; ahead = names_start o b; stays = λ p. ap (has_named s key) (same_members p o) }
+
+  module _ (a : Searching s t q key c) where
+    pub none_has : c.left ≡ 0 → Has s t q key false
+    none_has l = record { tells = λ o. a.stays o ∙ ap (has_named s key) (names_end a.ahead l) }
+
+    module _ {n : ℕ} {d : Children 1} (h : Passes c n d) where
+      pub other_name : MemberHere s t n a.rest
+      other_name = name_here a.ahead h
+
+      -- its name was read, the bytes k between its quotes, and b says whether it is the key
+      module _ {x : Record} (p : Reads t n x) {k : List ℕ} (e : k ≡ part s (x.first + 1) (x.end - 1)) {b : Bool} (h' : b ≡ same key (characters k)) where
+        has_splits : (v : Bool) → b ≡ v → has_named s key a.rest ≡ (v || has_named s key other_name.others)
+        has_splits v i =
+            let z : same key (name_of s x.first x.end) ≡ v = sym (h' ∙ ap (λ (k : List ℕ). same key (characters k)) e) ∙ i in
+            ap (has_named s key) (member_read other_name p) ∙ rw z
+
+        pub one_has : b ≡ true → Has s t q key true
+        one_has i = record { tells = λ o. a.stays o ∙ has_splits true i }
+
+        pub search_next : b ≡ false → Searching s t q key d
+        search_next i = record { rest = other_name.others; ahead = names_next a.ahead h other_name; stays = λ o. a.stays o ∙ has_splits false i }
 
 -- ---- the optional members
 
@@ -74,15 +93,14 @@ module _ {s t : List ℕ} {q p : ℕ} {c : Children 1} where
       pub candidate : MemberHere s t n a.rest
       candidate = name_here a.ahead h
 
-      -- its name was read, the bytes k between its quotes, and looked up
-      module _ {x : Record} (i : Reads t n x) {k : List ℕ} (e : k ≡ part s (x.first + 1) (x.end - 1)) {v : Option ℕ} (f : Finds s t q (characters k) v) where
-        splits : {b : Bool} → is_some v ≡ b → shared_at s a.required.members a.rest ≡ cond b (Some x.first) (shared_at s a.required.members candidate.others)
-        splits g =
-            let z : has_named s (name_of s x.first x.end) a.required.members ≡ is_some v = ap (λ (k : List ℕ). has_named s (characters k) a.required.members) (sym e) ∙ has_found v a.required f in
-            ap (shared_at s a.required.members) (member_read candidate i) ∙ rw (z, g)
+      -- its name was read, the bytes k between its quotes
+      module _ {x : Record} (i : Reads t n x) {k : List ℕ} (e : k ≡ part s (x.first + 1) (x.end - 1)) where
+        splits : {b : Bool} → Has s t q (characters k) b
+            → shared_at s a.required.members a.rest ≡ cond b (Some x.first) (shared_at s a.required.members candidate.others)
+        splits f = ap (shared_at s a.required.members) (member_read candidate i) ∙ rw (sym (ap characters e), f.tells a.required)
 
-        pub shared : is_some v ≡ true → Shares s t (Some q) (Some p) (Err (fault SharedName x.first))
-        shared g = shares (splits g)
+        pub shared : Has s t q (characters k) true → Shares s t (Some q) (Some p) (Err (fault SharedName x.first))
+        shared f = shares (splits f)
 
-        pub compare_next : is_some v ≡ false → Comparing s t q p d
-        compare_next g = record { required = a.required; rest = candidate.others; ahead = names_next a.ahead h candidate; stays = λ o. a.stays o ∙ splits g }
+        pub compare_next : Has s t q (characters k) false → Comparing s t q p d
+        compare_next f = record { required = a.required; rest = candidate.others; ahead = names_next a.ahead h candidate; stays = λ o. a.stays o ∙ splits f }
