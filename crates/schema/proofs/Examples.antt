@@ -11,8 +11,8 @@ use Rattle.model.specs.Text.{text}
 use Rattle.model.specs.Calendar.{first_months, first_years, day_count, day_number}
 use Rattle.model.specs.Date.{utc_day, moment}
 use Rattle.model.specs.Definition.{JSON, Schema, Float, Integer, String, Boolean, DateTime}
-use Rattle.chars.specs.Bytes.{code_of, digit, escape_of, lowest, highest, six_bits}
 use Rattle.chars.specs.Refusals.{number}
+use Rattle.chars.specs.Bytes.{code_of, digit, escape_of, lowest, highest, six_bits}
 use Rattle.tokens.specs.Parse.{Parse, refused, parsed, unexpected}
 use Rattle.chars.specs.Runs.{run_from, run}
 use Rattle.tokens.specs.Space.{is_space}
@@ -25,8 +25,10 @@ use Rattle.syntax.specs.Tree.{Node, scalar, array, object, none, more, no_member
 use Rattle.syntax.specs.Grammar.{after_item, items_from, items_at, list_at, repeated, name_at, after_name, value_at, alone, read_text}
 use Rattle.syntax.specs.Answer.{answer, table_of}
 use Rattle.syntax.specs.declared.answers.Answer.{Answer}
-use Rattle.definitions.specs.Definitions.{Located, named-at, array_at, map_at, object-at, no_field, field, Defined, faulty, fine, definition_at}
-use Rattle.schema.specs.Judging.{mismatch, nothing, mismatch_at}
+use Rattle.definitions.specs.Definitions.{Located, named-at, array_at, map_at, object-at, no_field, field, Defined}
+use Rattle.definitions.specs.Definitions.{faulty as unfit, fine as defined, definition_at, fault_number}
+use Rattle.schema.specs.Judging.{mismatched, nothing, mismatch_at}
+use Rattle.schema.specs.declared.judging.MismatchCode.TheVariants.{WrongKind, MissingName}
 use Rattle.definitions.specs.Accepting.{read_schema, accept}
 use Rattle.schema.specs.Dates.{least_of, greatest_of, earliest, latest, dates_of}
 use Rattle.schema.specs.Checking.{check_answer, check_table, check_moments}
@@ -42,13 +44,22 @@ quotes (c ∷ s) = cond (eqb c 0x27) 0x22 c ∷ quotes s
 abbrev json : Letters → List ℕ
 json s = quotes (text s)
 
+-- a definition; or the number of a fault's code, and its place
+data Shown : Type 0 where
+  fine : Located → Shown
+  faulty : ℕ → ℕ → Shown
+
+abbrev shown : Defined Located → Shown
+shown (unfit c p) = faulty (fault_number c) p
+shown (defined d) = fine d
+
 -- the definition of a text that is read, or its fault
-abbrev defined_by : List ℕ → Parse Node → Defined Located
+abbrev defined_by : List ℕ → Parse Node → Shown
 defined_by s (refused c p) = faulty (number c) p
-defined_by s (parsed n e) = definition_at s n
+defined_by s (parsed n e) = shown (definition_at s n)
 
 -- the definition of a schema; who unfolds this unfolds all that reading computes with
-defines : List ℕ → Defined Located
+defines : List ℕ → Shown
 unfolding code_of digit escape_of lowest highest six_bits unexpected run_from run is_space refusal_at hex_pair partner_at rest_at unicode_at
     escape_at two_at three_at four_at char_from char_at string_from string_at chars_from chars_at whole_end sign_end power_at exponent_at fraction_at
     unsigned_at number_at first_of word_at after_item items_from items_at list_at repeated name_at after_name value_at alone read_text
@@ -168,10 +179,10 @@ elements = array 0 12 (more (scalar Whole 1 2) (more (scalar Null 3 7) (more (sc
 
 -- none; a wrong kind, of the whole or of the first element that has one
 of_trees : (mismatch_at [] (array_at 0 (named-at 9 JSON)) elements ≡ nothing)
-    × (mismatch_at [] (map_at 4 (named-at 11 JSON)) elements ≡ mismatch 20 0 4)
-    × (mismatch_at [] (array_at 0 (named-at 9 Integer)) elements ≡ mismatch 20 3 9)
-    × (mismatch_at [] (array_at 0 (named-at 9 String)) elements ≡ mismatch 20 1 9)
-    × (mismatch_at [] (object-at 5 (field 28 (text "a") (named-at 32 JSON) no_field) no_field) (object 7 9 no_member) ≡ mismatch 21 7 28)
+    × (mismatch_at [] (map_at 4 (named-at 11 JSON)) elements ≡ mismatched WrongKind 0 4)
+    × (mismatch_at [] (array_at 0 (named-at 9 Integer)) elements ≡ mismatched WrongKind 3 9)
+    × (mismatch_at [] (array_at 0 (named-at 9 String)) elements ≡ mismatched WrongKind 1 9)
+    × (mismatch_at [] (object-at 5 (field 28 (text "a") (named-at 32 JSON) no_field) no_field) (object 7 9 no_member) ≡ mismatched MissingName 7 28)
     × (mismatch_at [] (object-at 5 no_field (field 28 (text "a") (named-at 32 JSON) no_field)) (object 7 9 no_member) ≡ nothing)
 of_trees = (refl, refl, refl, refl, refl, refl)
 

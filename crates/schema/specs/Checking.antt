@@ -1,5 +1,5 @@
 -- Check (01, "Three services"; 02, L3): the answer, both tables, when it is 0, and the dates.
-use Rattle.std.specs.Prelude.{ℕ, ◌≡◌, cond, List, [], leb, eqb, ℤ}
+use Rattle.std.specs.Prelude.{ℕ, ◌≡◌, cond, List, [], leb, eqb, ℤ, Result, Ok, Err}
 use Rattle.std.proofs.Math.Option.{some}
 use Rattle.model.specs.Definition.{Def, definition_of}
 use Rattle.model.specs.Meeting.{Meets}
@@ -11,9 +11,8 @@ use Rattle.syntax.specs.Spelling.{value_of}
 use Rattle.syntax.specs.Answer.{document_limits, read_within, answer, rows_in, table_of}
 use Rattle.syntax.specs.declared.answers.Answer.{Answer}
 use Rattle.definitions.specs.Definitions.{Located}
-use Rattle.schema.specs.Judging.{visits, mismatch_at}
+use Rattle.schema.specs.Judging.{Judgement, mismatch_number, visits, mismatch_at}
 use Rattle.schema.specs.Dates.{moments}
-use Rattle.schema.specs.declared.judging.Mismatch.{Mismatch}
 use Rattle.definitions.specs.Accepting.{read_schema, Accepted, not_accepted, accepted, accept, HasRoom}
 
 abbrev pub read_document : List ℕ → Parse Node
@@ -21,8 +20,9 @@ read_document s = read_within document_limits s
 
 -- ---- the answer: "Check takes the schema wholly first, then the document, then the misfits"
 
-abbrev pub mismatch_answer : Mismatch → Answer
-mismatch_answer m = cond (eqb m.code 0) (answer 0 0 0 0) (answer m.code 1 m.place m.other)
+abbrev pub mismatch_answer : Judgement → Answer
+mismatch_answer (Ok u) = answer 0 0 0 0
+mismatch_answer (Err m) = answer (mismatch_number m.code) 1 m.place m.other
 
 abbrev pub judged_as : Located → ℕ → List ℕ → Parse Node → Answer
 judged_as d w s (refused c p) = answer (number c) 1 p 0
@@ -69,3 +69,14 @@ judged_moments (accepted d) s (parsed n e) = moments s (visits s d n)
 unfoldable pub check_moments : ℕ → ℕ → List ℕ → List ℕ → List ℤ
 check_moments w₁ w₂ document schema =
     cond (eqb (check_answer w₁ w₂ document schema).code 0) (judged_moments (accept 2 w₂ schema) document (read_document document)) []
+
+-- ---- for a private contract: reading both texts
+
+-- of a document with a table of w words, where it is refused or has no room
+abbrev pub document_result : ℕ → Parse Node → Result (Unit {0}) Answer
+document_result w (refused c p) = Err (answer (number c) 1 p 0)
+document_result w (parsed n e) = cond (leb (size n) (rows_in w)) (Ok tt) (Err (answer 8 1 0 (size n)))
+
+abbrev pub both_result : Accepted → ℕ → List ℕ → Result (Unit {0}) Answer
+both_result (not_accepted a) w s = Err a
+both_result (accepted d) w s = document_result w (read_document s)

@@ -1,6 +1,5 @@
 -- For private contracts: the row of the value at a place, and the rows from there up to the top.
-use Rattle.std.specs.Prelude.{ℕ, zero, suc, ◌+◌, ◌*◌, ◌≤◌, ◌<◌, ◌≡◌, Bool, cond, not, ◌&&◌, List, [], length, eqb}
-use Rattle.std.proofs.Math.Option.{Option, none, some}
+use Rattle.std.specs.Prelude.{ℕ, zero, suc, ◌+◌, ◌*◌, ◌≤◌, ◌<◌, ◌≡◌, Bool, cond, not, ◌&&◌, List, [], length, eqb, Option, Some, None}
 use Rattle.syntax.specs.Tree.{Node}
 use Rattle.syntax.specs.Rows.{row_words, size}
 use Rattle.syntax.specs.Holding.{word, Holds, Nested}
@@ -12,13 +11,8 @@ begins_at t place r = not (eqb (word t r 0) 9) && eqb (word t r 1) place
 
 -- the first such row of the k from r on
 abbrev pub first_at : List ℕ → ℕ → ℕ → ℕ → Option ℕ
-first_at t place r zero = none
-first_at t place r (suc k) = cond (begins_at t place r) (some r) (first_at t place (r + 1) k)
-
--- the top row, where there is none
-abbrev pub or_top : Option ℕ → ℕ
-or_top none = 0
-or_top (some r) = r
+first_at t place r zero = None
+first_at t place r (suc k) = cond (begins_at t place r) (Some r) (first_at t place (r + 1) k)
 
 -- a row from which one comes up to the top, with room for the rows on the way
 pub record ClimbReady (t : List ℕ) (from : ℕ) (list : List ℕ) : Type 0 where

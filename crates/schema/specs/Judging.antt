@@ -1,7 +1,6 @@
 -- What is judged of a value under a definition, in which order, and the first mismatch, with places (01, "Definitions": "First misfit"). 01's
 -- term is misfit.
-use Rattle.std.specs.Prelude.{ℕ, Bool, true, false, cond, List, [], ◌∷◌, ◌++◌, eqb}
-use Rattle.std.proofs.Math.Option.{Option, none, some}
+use Rattle.std.specs.Prelude.{ℕ, Bool, true, false, cond, List, [], ◌∷◌, ◌++◌, Option, Some, None, Result, Ok, Err}
 use Rattle.model.specs.Definition.{Named, JSON, Schema, Float, Integer, String, Boolean, DateTime, definition_of}
 use Rattle.model.specs.Date.{is_date}
 use Rattle.model.specs.Meeting.{is_some}
@@ -12,23 +11,39 @@ use Rattle.syntax.specs.Grammar.{name_of}
 use Rattle.syntax.specs.Spelling.{value_of}
 use Rattle.rows.specs.Finding.{lookup}
 use Rattle.definitions.specs.Definitions.{Located, named-at, array_at, map_at, object-at, LocatedFields, no_field, field}
+use Rattle.schema.specs.declared.judging.MismatchCode.{MismatchCode}
+use Rattle.schema.specs.declared.judging.MismatchCode.TheVariants.{WrongKind, MissingName, NoDate}
 use Rattle.schema.specs.declared.judging.Mismatch.{Mismatch}
 
+-- the numbers of the codes in an answer
+abbrev pub mismatch_number : MismatchCode → ℕ
+mismatch_number WrongKind = 20
+mismatch_number MissingName = 21
+mismatch_number NoDate = 22
+
 -- code, place in the document, other in the schema
-abbrev pub mismatch : ℕ → ℕ → ℕ → Mismatch
+abbrev pub mismatch : MismatchCode → ℕ → ℕ → Mismatch
 mismatch code place other = record { code = code; place = place; other = other }
 
+-- what judging comes to: a mismatch, or none
+abbrev pub Judgement : Type 0
+Judgement = Result (Unit {0}) Mismatch
+
 -- the value meets the definition
-abbrev pub nothing : Mismatch
-nothing = mismatch 0 0 0
+abbrev pub nothing : Judgement
+nothing = Ok tt
+
+abbrev pub mismatched : MismatchCode → ℕ → ℕ → Judgement
+mismatched code place other = Err (mismatch code place other)
 
 -- the first of two counts
-abbrev pub or_else : Mismatch → Mismatch → Mismatch
-or_else a b = cond (eqb a.code 0) b a
+abbrev pub or_else : Judgement → Judgement → Judgement
+or_else (Ok u) b = b
+or_else (Err m) b = Err m
 
--- code 20, for a wrong kind of value, at its first byte and by the definition's, where the test fails
-abbrev pub unless : Bool → ℕ → ℕ → Mismatch
-unless ok place other = cond ok nothing (mismatch 20 place other)
+-- a mismatch for a wrong kind of value, at its first byte and by the definition's, where the test fails
+abbrev pub unless : Bool → ℕ → ℕ → Judgement
+unless ok place other = cond ok nothing (mismatched WrongKind place other)
 
 -- "Integer takes kind 4 only, Float kinds 4 and 5"
 abbrev pub is_whole : Kind → Bool
@@ -70,21 +85,21 @@ if_scalar p (array f e ns) = false
 if_scalar p (object f e ms) = false
 
 -- "Under DateTime a value that isn't a string is 20"; a string that is no date is 22 at its opening quote
-abbrev pub date_of : List ℕ → ℕ → Kind → ℕ → ℕ → Mismatch
-date_of s p Null f e = mismatch 20 f p
-date_of s p False f e = mismatch 20 f p
-date_of s p True f e = mismatch 20 f p
-date_of s p Whole f e = mismatch 20 f p
-date_of s p Fractional f e = mismatch 20 f p
-date_of s p Quoted f e = cond (is_date (name_of s f e)) nothing (mismatch 22 f p)
+abbrev pub date_of : List ℕ → ℕ → Kind → ℕ → ℕ → Judgement
+date_of s p Null f e = mismatched WrongKind f p
+date_of s p False f e = mismatched WrongKind f p
+date_of s p True f e = mismatched WrongKind f p
+date_of s p Whole f e = mismatched WrongKind f p
+date_of s p Fractional f e = mismatched WrongKind f p
+date_of s p Quoted f e = cond (is_date (name_of s f e)) nothing (mismatched NoDate f p)
 
-abbrev pub date_at : List ℕ → ℕ → Node → Mismatch
+abbrev pub date_at : List ℕ → ℕ → Node → Judgement
 date_at s p (scalar k f e) = date_of s p k f e
-date_at s p (array f e ns) = mismatch 20 f p
-date_at s p (object f e ms) = mismatch 20 f p
+date_at s p (array f e ns) = mismatched WrongKind f p
+date_at s p (object f e ms) = mismatched WrongKind f p
 
 -- a definition at p that is a type name; "Schema takes every value that is a definition; any other is 20 at that value"
-abbrev pub named_at : List ℕ → ℕ → Named → Node → Mismatch
+abbrev pub named_at : List ℕ → ℕ → Named → Node → Judgement
 named_at s p JSON n = nothing
 named_at s p Schema n = unless (is_some (definition_of (value_of s n))) (place_of n) p
 named_at s p Float n = unless (if_scalar is_number n) (place_of n) p
@@ -113,12 +128,12 @@ pub data Visit : Type 0 where
   missing_name : ℕ → ℕ → Visit
 
 -- "A value's kind is judged before what it holds": code 20, and under DateTime 22; code 21 for a name
-abbrev pub mismatch_of : List ℕ → Visit → Mismatch
+abbrev pub mismatch_of : List ℕ → Visit → Judgement
 mismatch_of s (value-by (named-at p t) n) = named_at s p t n
 mismatch_of s (value-by (array_at p d) n) = unless (is_array n) (place_of n) p
 mismatch_of s (value-by (map_at p d) n) = unless (is_object n) (place_of n) p
 mismatch_of s (value-by (object-at p r o) n) = unless (is_object n) (place_of n) p
-mismatch_of s (missing_name brace q) = mismatch 21 brace q
+mismatch_of s (missing_name brace q) = mismatched MissingName brace q
 
 -- what is judged in a value that is an array, or an object
 abbrev pub in_array : Node → (Nodes → List Visit) → List Visit
@@ -142,8 +157,8 @@ each_member v (member f e n ms) = v n ++ each_member v ms
 
 -- what is judged by a name: the value under it, where it is present
 abbrev pub at_name : Option Node → List Visit → (Node → List Visit) → List Visit
-at_name none absent v = absent
-at_name (some n) absent v = v n
+at_name None absent v = absent
+at_name (Some n) absent v = v n
 
 -- a required name is missing in the object at a brace; an optional one may be absent
 abbrev pub missing : ℕ → ℕ → List Visit
@@ -169,10 +184,10 @@ abbrev mutual
 -- ---- the first that fails
 
 -- of what is judged, that of the first that fails
-abbrev pub first_mismatch : List ℕ → List Visit → Mismatch
+abbrev pub first_mismatch : List ℕ → List Visit → Judgement
 first_mismatch s [] = nothing
 first_mismatch s (v ∷ vs) = or_else (mismatch_of s v) (first_mismatch s vs)
 
 -- the first mismatch of a value of the text s
-abbrev pub mismatch_at : List ℕ → Located → Node → Mismatch
+abbrev pub mismatch_at : List ℕ → Located → Node → Judgement
 mismatch_at s d n = first_mismatch s (visits s d n)

@@ -1,48 +1,52 @@
 // The dates of a document (02, L3): how many, the earliest and the latest.
-ghost use Rattle.std.specs.Prelude.{◌≡◌};
-ghost use Rattle.schema.specs.Dates.{lesser, greater};
-ghost use Rattle.schema.specs.Walks.{Counted};
+ghost use Rattle.std.specs.Prelude.{◌≡◌, [], ◌∷◌};
+ghost use Rattle.schema.specs.Walks.{Tallied, Counted, numbers_of};
 
-// Where each of the three numbers stands.
-const COUNT: usize = 0;
+// The count stops here, so that one more is defined whatever was counted. No document has more values.
+const MOST: u32 = 65536;
 
-const EARLIEST: usize = 1;
-
-const LATEST: usize = 2;
-
-// The count stops here, so that one more is defined whatever is lent. No document has more values.
-const MOST: i64 = 65536;
-
-fn lesser_of(a: i64, b: i64) -> i64
-    ensures { result ≡ lesser a b }
-{
-    if a < b {
-        return a;
-    }
-    b
+// How many dates there are, the earliest and the latest; all three are 0 where there are none.
+#[derive(Clone, Copy, Debug, PartialEq, Eq)]
+pub struct Dates {
+    count: u32,
+    earliest: i64,
+    latest: i64,
 }
 
-fn greater_of(a: i64, b: i64) -> i64
-    ensures { result ≡ greater a b }
-{
-    if a < b {
-        return b;
+impl Dates {
+    pub fn none() -> Self
+        ensures { Tallied result [] }
+    {
+        Self {
+            count: 0,
+            earliest: 0,
+            latest: 0,
+        }
     }
-    a
-}
 
-// One moment more.
-pub fn count(dates: &mut [i64; 3], moment: i64)
-    ensures { Counted moment dates.old dates.new }
-{
-    let n = dates[COUNT];
-    if n == 0 {
-        *dates = [1, moment, moment];
-        return;
+    // One moment more.
+    pub fn add(&mut self, moment: i64)
+        ensures { Counted moment self.old self.new }
+    {
+        if self.count == 0 {
+            *self = Self {
+                count: 1,
+                earliest: moment,
+                latest: moment,
+            };
+            return;
+        }
+        self.earliest = self.earliest.min(moment);
+        self.latest = moment.max(self.latest);
+        if self.count < MOST {
+            self.count += 1;
+        }
     }
-    dates[EARLIEST] = lesser_of(moment, dates[EARLIEST]);
-    dates[LATEST] = greater_of(dates[LATEST], moment);
-    if n < MOST {
-        dates[COUNT] = n + 1;
+
+    // The three numbers, as they are lent out.
+    pub fn numbers(self) -> [i64; 3]
+        ensures { result ≡ numbers_of self }
+    {
+        [i64::from(self.count), self.earliest, self.latest]
     }
 }

@@ -1,320 +1,263 @@
 // The first mismatch of a document's value with a definition (01, "Definitions": "First misfit"). The dates are counted on the way.
 ghost use Rattle.std.specs.Prelude.{◌≡◌};
-ghost use Rattle.syntax.specs.Holding.{word as word_of};
 ghost use Rattle.rows.specs.Records.{Rowed};
-ghost use Rattle.schema.specs.Judging.{mismatch};
-ghost use Rattle.schema.specs.Walks.{Judgeable, Judged, JudgedDate, ArrayJudgeable, MapJudgeable, BodyJudgeable, FieldsJudgeable, FieldsJudged};
-ghost use Rattle.schema.specs.Walks.{FieldJudgeable, FieldJudged};
+ghost use Rattle.schema.specs.Judging.{mismatch, mismatch_number, unless as unlessOf};
+ghost use Rattle.schema.specs.Walks.{Judgeable, Judged, JudgedDate, NameJudgeable, ArrayJudgeable, MapJudgeable, BodyJudgeable};
+ghost use Rattle.schema.specs.Walks.{FieldsJudgeable, FieldsJudged, FieldJudgeable, FieldJudged};
 
-use crate::dates::count;
+use crate::dates::Dates;
 use date::moment_of;
-use definitions::{Generic, TypeName, define, generic_name, named_type, takes};
-use rows::{FEW_NAMES, MOST_NAMES, between, find, match_names, row_at, wide};
+use definitions::{Generic, TypeName, define, generic_at, type_at};
+use rows::{FEW_NAMES, MOST_NAMES, Tree, wide};
 
-// Codes 20 to 22 with the place in the document and the other in the schema; code 0 where there is none.
-#[derive(Clone, Copy)]
+// Why a value does not meet a definition.
+#[derive(Clone, Copy, Debug, PartialEq, Eq)]
+pub enum MismatchCode {
+    WrongKind,
+    MissingName,
+    NoDate,
+}
+
+impl From<MismatchCode> for u32 {
+    ghost from_gives = { λ code n. n ≡ mismatch_number code };
+
+    // The number of a code in an answer.
+    fn from(code: MismatchCode) -> u32 {
+        match code {
+            MismatchCode::WrongKind => 20,
+            MismatchCode::MissingName => 21,
+            MismatchCode::NoDate => 22,
+        }
+    }
+}
+
+// A mismatch: what is wrong, with the place in the document and the other in the schema.
+#[derive(Clone, Copy, Debug, PartialEq, Eq)]
 pub struct Mismatch {
-    pub code: u32,
+    pub code: MismatchCode,
     pub place: u32,
     pub other: u32,
 }
 
 impl Mismatch {
-    fn none() -> Self
-        ensures { result ≡ mismatch 0 0 0 }
-    {
-        Self {
-            code: 0,
-            place: 0,
-            other: 0,
-        }
-    }
-
-    fn at(code: u32, place: u32, other: u32) -> Self
+    fn new(code: MismatchCode, place: u32, other: u32) -> Self
         ensures { result ≡ mismatch code place other }
     {
         Self { code, place, other }
     }
 }
 
-// The value at a row against DateTime, whose definition begins at `other`.
-fn judge_date(
-    document: &[u8],
-    rows1: &[u32],
-    at: usize,
-    other: u32,
-    dates: &mut [i64; 3],
-) -> Mismatch
-    requires { Rowed document.now rows1.now at }
-    ensures { JudgedDate document.now rows1.now at other result dates.old dates.new }
+// A mismatch for a wrong kind of value, where it does not fit.
+fn unless(fits: bool, place: u32, other: u32) -> Result<(), Mismatch>
+    ensures { result ≡ unlessOf fits place other }
 {
-    let value = row_at(rows1, at);
-    if value.kind != 6 {
-        return Mismatch::at(20, value.first, other);
+    if fits {
+        return Ok(());
     }
-    let Some(moment) = moment_of(between(document, value.first, value.end)) else {
-        return Mismatch::at(22, value.first, other);
+    Err(Mismatch::new(MismatchCode::WrongKind, place, other))
+}
+
+// The value at a row against DateTime, whose definition begins at `other`.
+fn judge_date(document: Tree, at: usize, other: u32, dates: &mut Dates) -> Result<(), Mismatch>
+    requires { Rowed document.text.now document.table.now at }
+    ensures { JudgedDate document.entry.text.now document.entry.table.now at other result dates.old dates.new }
+{
+    let value = document.row_at(at);
+    unless(value.kind == 6, value.first, other)?;
+    let Some(moment) = moment_of(document.between(value.first, value.end)) else {
+        return Err(Mismatch::new(MismatchCode::NoDate, value.first, other));
     };
-    count(dates, moment);
-    Mismatch::none()
+    dates.add(moment);
+    Ok(())
 }
 
 // The value at row `at` of the document against the type name at row `by` of the schema.
 fn judge_named(
-    document: &[u8],
-    schema: &[u8],
-    rows1: &[u32],
-    rows2: &[u32],
+    document: Tree,
+    schema: Tree,
     at: usize,
     by: usize,
-    dates: &mut [i64; 3],
-) -> Mismatch
-    requires judgeable { Judgeable document.now schema.now rows1.now rows2.now at by }
-    requires by_value { word_of rows2.now by 0 ≡ 6 }
-    ensures { Judged document.now schema.now rows1.now rows2.now at by result dates.old dates.new }
+    dates: &mut Dates,
+) -> Result<(), Mismatch>
+    requires { NameJudgeable document.text.now schema.text.now document.table.now schema.table.now at by }
+    ensures { Judged document.entry.text.now schema.entry.text.now document.entry.table.now schema.entry.table.now at by
+        result dates.old dates.new }
 {
-    let value = row_at(rows1, at);
-    let definition = row_at(rows2, by);
-    let name = named_type(between(schema, definition.first, definition.end));
-    let fits = takes(name, value.kind);
-    match name {
-        TypeName::DateTime => judge_date(document, rows1, at, definition.first, dates),
-        TypeName::Schema => {
-            if define(document, rows1, at).code == 0 {
-                return Mismatch::none();
-            }
-            Mismatch::at(20, value.first, definition.first)
-        }
-        _ => {
-            if fits {
-                return Mismatch::none();
-            }
-            Mismatch::at(20, value.first, definition.first)
-        }
+    let value = document.row_at(at);
+    let other = schema.row_at(by).first;
+    match type_at(schema, by).unwrap() {
+        TypeName::DateTime => judge_date(document, at, other, dates),
+        TypeName::Schema => unless(define(document, at).is_ok(), value.first, other),
+        name => unless(name.takes(value.kind), value.first, other),
     }
 }
 
 // The first mismatch of the value at row `at` of the document with the definition at row `by` of the schema.
 #[cycle(judge_judge_array_judge_field_judge_fields_judge_map_judge_object_judge_wide)]
 pub fn judge(
-    document: &[u8],
-    schema: &[u8],
-    rows1: &[u32],
-    rows2: &[u32],
+    document: Tree,
+    schema: Tree,
     at: usize,
     by: usize,
-    dates: &mut [i64; 3],
-) -> Mismatch
-    requires { Judgeable document.now schema.now rows1.now rows2.now at by }
-    ensures { Judged document.now schema.now rows1.now rows2.now at by result dates.old dates.new }
+    dates: &mut Dates,
+) -> Result<(), Mismatch>
+    requires { Judgeable document.text.now schema.text.now document.table.now schema.table.now at by }
+    ensures { Judged document.entry.text.now schema.entry.text.now document.entry.table.now schema.entry.table.now at by
+        result dates.old dates.new }
 {
-    if row_at(rows2, by).kind == 6 {
-        return judge_named(document, schema, rows1, rows2, at, by, dates);
-    }
-    let name = row_at(rows2, by + 1);
-    match generic_name(between(schema, name.first, name.end)) {
-        Generic::Array => judge_array(document, schema, rows1, rows2, at, by, dates),
-        Generic::Map => judge_map(document, schema, rows1, rows2, at, by, dates),
-        _ => judge_object(document, schema, rows1, rows2, at, by, dates),
+    match generic_at(schema, by) {
+        None => judge_named(document, schema, at, by, dates),
+        Some(Generic::Array) => judge_array(document, schema, at, by, dates),
+        Some(Generic::Map) => judge_map(document, schema, at, by, dates),
+        Some(Generic::Object) => judge_object(document, schema, at, by, dates),
     }
 }
 
 // The same of a definition under Array.
 #[cycle(judge_judge_array_judge_field_judge_fields_judge_map_judge_object_judge_wide)]
 fn judge_array(
-    document: &[u8],
-    schema: &[u8],
-    rows1: &[u32],
-    rows2: &[u32],
+    document: Tree,
+    schema: Tree,
     at: usize,
     by: usize,
-    dates: &mut [i64; 3],
-) -> Mismatch
-    requires { ArrayJudgeable document.now schema.now rows1.now rows2.now at by }
-    ensures { Judged document.now schema.now rows1.now rows2.now at by result dates.old dates.new }
+    dates: &mut Dates,
+) -> Result<(), Mismatch>
+    requires { ArrayJudgeable document.text.now schema.text.now document.table.now schema.table.now at by }
+    ensures { Judged document.entry.text.now schema.entry.text.now document.entry.table.now schema.entry.table.now at by
+        result dates.old dates.new }
 {
-    let value = row_at(rows1, at);
-    if value.kind != 7 {
-        return Mismatch::at(20, value.first, row_at(rows2, by).first);
+    let value = document.row_at(at);
+    unless(value.kind == 7, value.first, schema.row_at(by).first)?;
+    for row in document.elements(at) {
+        judge(document, schema, row, by + 2, dates)?;
     }
-    let mut left = value.children;
-    let mut row = at + 1;
-    while left > 0 {
-        let found = judge(document, schema, rows1, rows2, row, by + 2, dates);
-        if found.code != 0 {
-            return found;
-        }
-        row = row_at(rows1, row).next;
-        left -= 1;
-    }
-    Mismatch::none()
+    Ok(())
 }
 
-// The same of a definition under Map.
+// The same of a definition under Map. One function for both would take the children as an iterator of either kind, and be no plainer than these two.
 #[cycle(judge_judge_array_judge_field_judge_fields_judge_map_judge_object_judge_wide)]
 fn judge_map(
-    document: &[u8],
-    schema: &[u8],
-    rows1: &[u32],
-    rows2: &[u32],
+    document: Tree,
+    schema: Tree,
     at: usize,
     by: usize,
-    dates: &mut [i64; 3],
-) -> Mismatch
-    requires { MapJudgeable document.now schema.now rows1.now rows2.now at by }
-    ensures { Judged document.now schema.now rows1.now rows2.now at by result dates.old dates.new }
+    dates: &mut Dates,
+) -> Result<(), Mismatch>
+    requires { MapJudgeable document.text.now schema.text.now document.table.now schema.table.now at by }
+    ensures { Judged document.entry.text.now schema.entry.text.now document.entry.table.now schema.entry.table.now at by
+        result dates.old dates.new }
 {
-    let value = row_at(rows1, at);
-    if value.kind != 8 {
-        return Mismatch::at(20, value.first, row_at(rows2, by).first);
+    let value = document.row_at(at);
+    unless(value.kind == 8, value.first, schema.row_at(by).first)?;
+    for row in document.members(at) {
+        judge(document, schema, row + 1, by + 2, dates)?;
     }
-    let mut left = value.children;
-    let mut row = at + 2;
-    while left > 0 {
-        let found = judge(document, schema, rows1, rows2, row, by + 2, dates);
-        if found.code != 0 {
-            return found;
-        }
-        row = row_at(rows1, row).next + 1;
-        left -= 1;
-    }
-    Mismatch::none()
+    Ok(())
 }
 
 // The same of a definition under Object.
 #[cycle(judge_judge_array_judge_field_judge_fields_judge_map_judge_object_judge_wide)]
 fn judge_object(
-    document: &[u8],
-    schema: &[u8],
-    rows1: &[u32],
-    rows2: &[u32],
+    document: Tree,
+    schema: Tree,
     at: usize,
     by: usize,
-    dates: &mut [i64; 3],
-) -> Mismatch
-    requires { BodyJudgeable document.now schema.now rows1.now rows2.now at by }
-    ensures { Judged document.now schema.now rows1.now rows2.now at by result dates.old dates.new }
+    dates: &mut Dates,
+) -> Result<(), Mismatch>
+    requires { BodyJudgeable document.text.now schema.text.now document.table.now schema.table.now at by }
+    ensures { Judged document.entry.text.now schema.entry.text.now document.entry.table.now schema.entry.table.now at by
+        result dates.old dates.new }
 {
-    let value = row_at(rows1, at);
-    if value.kind != 8 {
-        return Mismatch::at(20, value.first, row_at(rows2, by).first);
-    }
-    let required = find(schema, rows2, by + 2, b"required");
-    let optional = find(schema, rows2, by + 2, b"optional");
+    let value = document.row_at(at);
+    unless(value.kind == 8, value.first, schema.row_at(by).first)?;
+    let required = schema.find(by + 2, b"required");
+    let optional = schema.find(by + 2, b"optional");
     if value.children < FEW_NAMES {
-        let found = judge_fields(document, schema, rows1, rows2, at, required, true, dates);
-        if found.code != 0 {
-            return found;
-        }
-        return judge_fields(document, schema, rows1, rows2, at, optional, false, dates);
+        judge_fields(document, schema, at, required, true, dates)?;
+        return judge_fields(document, schema, at, optional, false, dates);
     }
-    let found = judge_wide(document, schema, rows1, rows2, at, required, true, dates);
-    if found.code != 0 {
-        return found;
-    }
-    judge_wide(document, schema, rows1, rows2, at, optional, false, dates)
+    judge_wide(document, schema, at, required, true, dates)?;
+    judge_wide(document, schema, at, optional, false, dates)
 }
 
-// The object at row `at` of the document against the fields at row `fields` of the schema, in their order; row 0 has none.
+// The object at row `at` of the document against the fields of the object at a row of the schema, in their order, where there is one.
 #[cycle(judge_judge_array_judge_field_judge_fields_judge_map_judge_object_judge_wide)]
 fn judge_fields(
-    document: &[u8],
-    schema: &[u8],
-    rows1: &[u32],
-    rows2: &[u32],
+    document: Tree,
+    schema: Tree,
     at: usize,
-    fields: usize,
+    fields: Option<usize>,
     required: bool,
-    dates: &mut [i64; 3],
-) -> Mismatch
-    requires { FieldsJudgeable document.now schema.now rows1.now rows2.now at fields }
-    ensures { FieldsJudged document.now schema.now rows1.now rows2.now at fields required result dates.old dates.new }
+    dates: &mut Dates,
+) -> Result<(), Mismatch>
+    requires { FieldsJudgeable document.text.now schema.text.now document.table.now schema.table.now at fields }
+    ensures { FieldsJudged document.entry.text.now schema.entry.text.now document.entry.table.now schema.entry.table.now at fields required
+        result dates.old dates.new }
 {
-    if fields == 0 {
-        return Mismatch::none();
+    let Some(object) = fields else {
+        return Ok(());
+    };
+    for row in schema.members(object) {
+        let name = schema.row_at(row);
+        let value = document.find(at, schema.between(name.first, name.end));
+        judge_field(document, schema, at, value, row, required, dates)?;
     }
-    let mut left = row_at(rows2, fields).children;
-    let mut row = fields + 1;
-    while left > 0 {
-        let name = row_at(rows2, row);
-        let value = find(document, rows1, at, between(schema, name.first, name.end));
-        let found = judge_field(
-            document, schema, rows1, rows2, at, value, row, required, dates,
-        );
-        if found.code != 0 {
-            return found;
-        }
-        row = row_at(rows2, row + 1).next;
-        left -= 1;
-    }
-    Mismatch::none()
+    Ok(())
 }
 
 // The same of an object with many members: where the fields are many too, each name is looked up by an index.
 // It is called twice, so that the compiler keeps its room out of the frames of `judge_object` and `judge_fields`.
+// Its loop stands here once more, since one that takes a closure for what is found would be no shorter than both.
 #[cycle(judge_judge_array_judge_field_judge_fields_judge_map_judge_object_judge_wide)]
 fn judge_wide(
-    document: &[u8],
-    schema: &[u8],
-    rows1: &[u32],
-    rows2: &[u32],
+    document: Tree,
+    schema: Tree,
     at: usize,
-    fields: usize,
+    fields: Option<usize>,
     required: bool,
-    dates: &mut [i64; 3],
-) -> Mismatch
-    requires { FieldsJudgeable document.now schema.now rows1.now rows2.now at fields }
-    ensures { FieldsJudged document.now schema.now rows1.now rows2.now at fields required result dates.old dates.new }
+    dates: &mut Dates,
+) -> Result<(), Mismatch>
+    requires { FieldsJudgeable document.text.now schema.text.now document.table.now schema.table.now at fields }
+    ensures { FieldsJudged document.entry.text.now schema.entry.text.now document.entry.table.now schema.entry.table.now at fields required
+        result dates.old dates.new }
 {
-    if fields == 0 {
-        return Mismatch::none();
+    let Some(object) = fields else {
+        return Ok(());
+    };
+    let names = schema.row_at(object).children;
+    if !wide(document.row_at(at).children, names) {
+        return judge_fields(document, schema, at, fields, required, dates);
     }
-    let names = row_at(rows2, fields).children;
-    if !wide(row_at(rows1, at).children, names) {
-        return judge_fields(document, schema, rows1, rows2, at, fields, required, dates);
+    let mut values = [None; MOST_NAMES];
+    document.match_names(at, schema, object, &mut values);
+    for (i, row) in schema.members(object).enumerate() {
+        judge_field(document, schema, at, values[i], row, required, dates)?;
     }
-    let mut values = [0usize; MOST_NAMES];
-    match_names(document, rows1, at, schema, rows2, fields, &mut values);
-    let count = names as usize;
-    let mut i: usize = 0;
-    let mut row = fields + 1;
-    while i < count {
-        let value = values[i];
-        let found = judge_field(
-            document, schema, rows1, rows2, at, value, row, required, dates,
-        );
-        if found.code != 0 {
-            return found;
-        }
-        row = row_at(rows2, row + 1).next;
-        i += 1;
-    }
-    Mismatch::none()
+    Ok(())
 }
 
-// The same of one field, its name at row `row`: row `value` of the document was found for it, or 0.
+// The same of one field, its name at row `row`: its value was found at row `value` of the document, if at all.
 #[cycle(judge_judge_array_judge_field_judge_fields_judge_map_judge_object_judge_wide)]
 fn judge_field(
-    document: &[u8],
-    schema: &[u8],
-    rows1: &[u32],
-    rows2: &[u32],
+    document: Tree,
+    schema: Tree,
     at: usize,
-    value: usize,
+    value: Option<usize>,
     row: usize,
     required: bool,
-    dates: &mut [i64; 3],
-) -> Mismatch
-    requires { FieldJudgeable document.now schema.now rows1.now rows2.now at value row }
-    ensures { FieldJudged document.now schema.now rows1.now rows2.now at value row required result dates.old dates.new }
+    dates: &mut Dates,
+) -> Result<(), Mismatch>
+    requires { FieldJudgeable document.text.now schema.text.now document.table.now schema.table.now at value row }
+    ensures { FieldJudged document.entry.text.now schema.entry.text.now document.entry.table.now schema.entry.table.now at value row required
+        result dates.old dates.new }
 {
-    if value > 0 {
-        return judge(document, schema, rows1, rows2, value, row + 1, dates);
+    if let Some(found) = value {
+        return judge(document, schema, found, row + 1, dates);
     }
-    if required {
-        let brace = row_at(rows1, at).first;
-        let name = row_at(rows2, row);
-        return Mismatch::at(21, brace, name.first);
+    if !required {
+        return Ok(());
     }
-    Mismatch::none()
+    let brace = document.row_at(at).first;
+    let name = schema.row_at(row);
+    Err(Mismatch::new(MismatchCode::MissingName, brace, name.first))
 }

@@ -1,7 +1,7 @@
 // The path to a mismatch (02, L11): found by its place among the rows of the document, and from there row by row to the one that each stands in.
 ghost use Rattle.std.specs.Prelude.{◌≡◌, ◌*◌, ◌≤◌, length};
 ghost use Rattle.syntax.specs.Rows.{row_words};
-ghost use Rattle.schema.specs.Climbing.{first_at, or_top, ClimbReady, Climbed, PathReady, PathWritten};
+ghost use Rattle.schema.specs.Climbing.{first_at, ClimbReady, Climbed, PathReady, PathWritten};
 
 use rows::parent_at;
 use syntax::word;
@@ -9,24 +9,21 @@ use syntax::word;
 // How many words a path takes at most: a value stands in at most 32 arrays and objects.
 pub const PATH_WORDS: usize = 33;
 
-// The row of the first value that begins at a place, of so many rows; 0 where none does.
-fn value_at(table: &[u32], rows: usize, place: u32) -> usize
+// The row of the first value that begins at a place, of so many rows.
+fn value_at(table: &[u32], rows: usize, place: u32) -> Option<usize>
     requires { row_words * rows ≤ length table.now }
-    ensures { result ≡ or_top (first_at table.now place 0 rows) }
+    ensures { result ≡ first_at table.now place 0 rows }
 {
-    let mut row = 0;
-    while row < rows {
-        if word(table, row, 1) == place {
-            if word(table, row, 0) != 9 {
-                return row;
-            }
+    for row in 0..rows {
+        if word(table, row, 1) == place && word(table, row, 0) != 9 {
+            return Some(row);
         }
-        row += 1;
     }
-    0
+    None
 }
 
 // Writes the rows from one up to 0, and tells how many.
+// The list has room for them all, so that the loop ends with the top; a `for` over the list would need an end of its own for a full list.
 fn climb(table: &[u32], from: usize, path: &mut [u32]) -> usize
     requires { ClimbReady table.now from path.old }
     ensures { Climbed table.now from result path.old path.new }
@@ -48,5 +45,5 @@ pub fn write_path(table: &[u32], place: u32, path: &mut [u32]) -> usize
     ensures { PathWritten table.now place result path.old path.new }
 {
     let rows = word(table, 0, 4) as usize;
-    climb(table, value_at(table, rows, place), path)
+    climb(table, value_at(table, rows, place).unwrap(), path)
 }

@@ -1,6 +1,6 @@
--- Check on plain values: how its answer, the tables it leaves and the dates follow from its steps, which are accepting the schema, reading the document
--- and judging it.
-use Prim.Native.Nat.{ℕ, ◌≤◌}
+-- Check on plain values: how its answer, the tables it leaves, the dates and the path follow from its steps, which are reading both texts, judging the
+-- document by the schema, and writing the path to its mismatch.
+use Prim.Native.Nat.{ℕ, ◌≤◌, ◌<◌}
 use mathlib.Core.Path.{◌≡◌, refl, sym, ap, ◌∙◌}
 use mathlib.Core.List.{List, [], ◌∷◌}
 use mathlib.Core.Logic.{◌↔◌}
@@ -9,7 +9,9 @@ use native.Mathlib.Omega.{arith}
 use lib.IntN.{ℤ, pos}
 use lib.ListN.{length}
 use lib.Dec.{leb}
-use borrow.Author.Tests.{le-leb, eq-eqb, ne_eqb}
+use borrow.Author.Tests.{le-leb, leb-true, ne_eqb, lt-ltb, le-ltb}
+use Rattle.std.specs.Prelude.{Result, Ok, Err}
+use Rattle.model.proofs.Basics.{never, by_test}
 use Rattle.model.proofs.Formed.{definition_formed}
 use Rattle.tokens.specs.Parse.{Parse, refused, parsed}
 use Rattle.syntax.specs.Tree.{Node}
@@ -17,168 +19,287 @@ use Rattle.syntax.specs.Rows.{size}
 use Rattle.syntax.specs.Spelling.{value_of}
 use Rattle.syntax.specs.Answer.{document_limits, schema_limits, answer, answer_of, rows_in, table_of}
 use Rattle.syntax.specs.declared.answers.Answer.{Answer}
-use Rattle.syntax.proofs.Theorems.{read_json, read_rows, read_short}
+use Rattle.syntax.proofs.Theorems.{read_json, read_rows, read_short, read_code}
 use Rattle.definitions.specs.Definitions.{Located, bare}
-use Rattle.schema.specs.Judging.{visits, mismatch_at}
+use Rattle.definitions.specs.Accepting.{read_schema, Accepted, not_accepted, accepted, accept_result, accept}
+use Rattle.schema.specs.Judging.{Judgement, visits, mismatch_at}
 use Rattle.schema.specs.Dates.{moments, earliest, latest, dates_of, Spans}
-use Rattle.schema.specs.Walks.{most_dates, Tallied, Walks, Judgeable, Judged}
+use Rattle.schema.specs.Walks.{most_dates, numbers_of, Tallied, Walks, Judgeable, Judged}
 use Rattle.schema.specs.Checking.{read_document, mismatch_answer, judged_as, checked_as, check_answer, table_after, check_table, Meeting, check_moments}
-use Rattle.definitions.specs.Accepting.{read_schema, Accepted, not_accepted, accepted, accept_answer, accept}
+use Rattle.schema.specs.Checking.{document_result, both_result}
+use Rattle.schema.specs.Paths.{check_path, list_after, path_words, short_answer, by_list}
+use Rattle.schema.specs.Climbing.{PathReady, PathWritten}
+use Rattle.schema.specs.declared.checking.Checked.{Checked}
+use Rattle.schema.specs.declared.dates.Dates.{Dates}
 use Rattle.schema.specs.declared.judging.Mismatch.{Mismatch}
-use Rattle.definitions.proofs.Facts.{Takes, Way, accept_way, HasRead, has_read, has_rows, defined_plain}
+use Rattle.definitions.proofs.Facts.{Takes, Way, accept_way, HasRead, has_rows, defined_plain}
 use Rattle.schema.proofs.dates.Once.{moments_few}
 use Rattle.schema.proofs.dates.Spans.{spans}
+use Rattle.schema.proofs.judging.Codes.{number_bounds}
 use Rattle.schema.proofs.checking.Zero.{check_zero}
+use Rattle.schema.proofs.paths.Reached.{HasMismatch, has_mismatch, path_ready, path_done, no_path}
+
+-- ---- reading both texts
+
+-- the schema is not accepted
+pub unaccepted_table : (s₁ s₂ t₁ t₂ : List ℕ) {m : Result (Unit {0}) Answer} {a : Answer} → m ≡ accept_result (accept 2 (length t₂) s₂) → m ≡ Err a
+    → t₁ ≡ check_table t₁ (length t₂) s₁ s₂
+unfolding check_table
+unaccepted_table s₁ s₂ t₁ t₂ {a = a} e q = go (accept 2 (length t₂) s₂) (sym q ∙ e)
+  where
+    go : (x : Accepted) → Err a ≡ accept_result x → t₁ ≡ table_after x t₁ s₁
+    go (not_accepted b) z = refl
+    go (accepted d) z = never (cc)
+
+-- what reading the document answers
+read_result : (w : ℕ) (s : List ℕ) (a : Answer) → a ≡ answer_of 1 w (read_document s)
+    → ((a.code ≡ 0 → ⊥) → Err a ≡ document_result w (read_document s)) × (a.code ≡ 0 → Ok tt ≡ document_result w (read_document s))
+unfolding answer_of
+read_result w s a e = go (read_document s) refl e
+  where
+    by_room : (n : Node) (b : Bool) → a ≡ cond b (answer 0 0 0 (size n)) (answer 8 1 0 (size n))
+        → ((a.code ≡ 0 → ⊥) → ◌≡◌ {A = Result (Unit {0}) Answer} (Err a) (cond b (Ok tt) (Err (answer 8 1 0 (size n)))))
+        × (a.code ≡ 0 → ◌≡◌ {A = Result (Unit {0}) Answer} (Ok tt) (cond b (Ok tt) (Err (answer 8 1 0 (size n)))))
+    by_room n true e = (λ f. absurd (f (ap (λ (a : Answer). a.code) e)), λ z. refl)
+    by_room n false e = (λ f. ap (λ (a : Answer). Err a) e, λ z. absurd (omega (arith, ap (λ (a : Answer). a.code) e, z)))
+
+    go : (o : Parse Node) → read_document s ≡ o → a ≡ answer_of 1 w o
+        → ((a.code ≡ 0 → ⊥) → Err a ≡ document_result w o) × (a.code ≡ 0 → Ok tt ≡ document_result w o)
+    go (refused c p) q e =
+        (λ f. ap (λ (a : Answer). Err a) e, λ z. absurd (omega (arith, read_code _ _ s c p q, ap (λ (a : Answer). a.code) e, z)))
+    go (parsed n p) q e = by_room n (leb (size n) (rows_in w)) e
+
+-- the schema is accepted
+module _ (s₁ s₂ t₁ t₂ : List ℕ) {m : Result (Unit {0}) Answer} {u : Unit {0}} (e : m ≡ accept_result (accept 2 (length t₂) s₂)) (q : m ≡ Ok u) where
+  accepted-so : (P : Accepted → Type 0) → ((d : Located) → P (accepted d)) → P (accept 2 (length t₂) s₂)
+  accepted-so P f = go (accept 2 (length t₂) s₂) (sym q ∙ e)
+    where
+      go : (x : Accepted) → Ok u ≡ accept_result x → P x
+      go (not_accepted b) z = never (cc)
+      go (accepted d) z = f d
+
+  pub accepted_rows : {u₁ : List ℕ} → u₁ ≡ table_of t₁ (read_document s₁) → u₁ ≡ check_table t₁ (length t₂) s₁ s₂
+  unfolding check_table
+  accepted_rows {u₁} x = accepted-so (λ k. u₁ ≡ table_after k t₁ s₁) (λ d. x)
+
+  module _ {a : Answer} (x : a ≡ answer_of 1 (length t₁) (read_document s₁)) where
+    pub accepted_unread : (a.code ≡ 0 → ⊥) → Err a ≡ both_result (accept 2 (length t₂) s₂) (length t₁) s₁
+    accepted_unread f = accepted-so (λ k. Err a ≡ both_result k (length t₁) s₁) (λ d. (read_result (length t₁) s₁ a x).0 f)
+
+    pub accepted_read : a.code ≡ 0 → Ok tt ≡ both_result (accept 2 (length t₂) s₂) (length t₁) s₁
+    accepted_read z = accepted-so (λ k. Ok tt ≡ both_result k (length t₁) s₁) (λ d. (read_result (length t₁) s₁ a x).1 z)
 
 -- ---- what Check promises
 
 abbrev pub no_dates : List ℤ
 no_dates = pos 0 ∷ pos 0 ∷ pos 0 ∷ []
 
--- of the answer r, the tables u₁ and u₂ that it leaves and the dates ds, for a document s₁ and a schema s₂ with tables t₁ and t₂
-abbrev pub Promised : List ℕ → List ℕ → List ℕ → List ℕ → Answer → List ℕ → List ℕ → List ℤ → Type 0
-Promised s₁ s₂ t₁ t₂ r u₁ u₂ ds =
-    (r ≡ check_answer (length t₁) (length t₂) s₁ s₂)
-    × ((u₁ ≡ check_table t₁ (length t₂) s₁ s₂)
-    × ((u₂ ≡ table_of t₂ (read_schema s₂))
-    × (((r.code ≡ 0) ↔ Meeting (length t₁) (length t₂) s₁ s₂)
-    × ((ds ≡ dates_of (check_moments (length t₁) (length t₂) s₁ s₂)) × Spans (check_moments (length t₁) (length t₂) s₁ s₂) ds))))
+-- of what it tells, the tables u₁ and u₂ that it leaves, the dates ds and the list v, for a document s₁ and a schema s₂ with tables t₁ and t₂ and
+-- a list l
+abbrev pub Promised : List ℕ → List ℕ → List ℕ → List ℕ → List ℕ → Checked → List ℕ → List ℕ → List ℤ → List ℕ → Type 0
+Promised s₁ s₂ t₁ t₂ l r u₁ u₂ ds v = record {
+  answers : r.answer ≡ by_list (length l) short_answer (check_answer (length t₁) (length t₂) s₁ s₂);
+  rows1 : u₁ ≡ by_list (length l) t₁ (check_table t₁ (length t₂) s₁ s₂);
+  rows2 : u₂ ≡ by_list (length l) t₂ (table_of t₂ (read_schema s₂));
+  meets : path_words ≤ length l → (r.answer.code ≡ 0) ↔ Meeting (length t₁) (length t₂) s₁ s₂;
+  dated : ds ≡ dates_of (by_list (length l) [] (check_moments (length t₁) (length t₂) s₁ s₂));
+  spans : Spans (by_list (length l) [] (check_moments (length t₁) (length t₂) s₁ s₂)) ds;
+  paths : v ≡ list_after (by_list (length l) [] (check_path (length t₁) (length t₂) s₁ s₂)) l;
+  steps : r.steps ≡ length (by_list (length l) [] (check_path (length t₁) (length t₂) s₁ s₂));
+}
 
-module _ (s₁ s₂ t₁ t₂ : List ℕ) {r : Answer} {u₁ u₂ : List ℕ} (p : r ≡ check_answer (length t₁) (length t₂) s₁ s₂)
-    (x : u₁ ≡ check_table t₁ (length t₂) s₁ s₂) (y : u₂ ≡ table_of t₂ (read_schema s₂)) where
-  whole : {ds : List ℤ} → ds ≡ dates_of (check_moments (length t₁) (length t₂) s₁ s₂) → Promised s₁ s₂ t₁ t₂ r u₁ u₂ ds
-  whole e =
-      let k = ap (λ (b : Answer). b.code) p in
-      let m = check_zero (length t₁) (length t₂) s₁ s₂ in
-      (p, (x, (y, ((λ z. m.0 (sym k ∙ z), λ h. k ∙ m.1 h), (e, rw e (spans (check_moments (length t₁) (length t₂) s₁ s₂)))))))
+module _ (s₁ s₂ t₁ t₂ l : List ℕ) where
+  -- "before everything"
+  pub promised_short : length l < path_words → {a : Answer} → a ≡ short_answer → Promised s₁ s₂ t₁ t₂ l (record { answer = a; steps = 0 }) t₁ t₂ no_dates l
+  unfolding earliest latest
+  promised_short h e = rw (lt-ltb (length l) path_words h) (record {
+    answers = e;
+    rows1 = refl;
+    rows2 = refl;
+    meets = λ m. absurd (omega arith);
+    dated = refl;
+    spans = spans [];
+    paths = refl;
+    steps = refl;
+  })
 
-  -- "all three are 0 [..] on every other code"
-  without_dates : (r.code ≡ 0 → ⊥) → Promised s₁ s₂ t₁ t₂ r u₁ u₂ no_dates
-  unfolding check_moments earliest latest
-  without_dates n = whole (rw (ne_eqb (check_answer (length t₁) (length t₂) s₁ s₂).code 0 (λ z. n (ap (λ (b : Answer). b.code) p ∙ z))))
+  module _ (h : path_words ≤ length l) {r : Checked} {u₁ u₂ v : List ℕ} {ds : List ℤ} (p : r.answer ≡ check_answer (length t₁) (length t₂) s₁ s₂)
+      (x : u₁ ≡ check_table t₁ (length t₂) s₁ s₂) (y : u₂ ≡ table_of t₂ (read_schema s₂))
+      (n : v ≡ list_after (check_path (length t₁) (length t₂) s₁ s₂) l) (k : r.steps ≡ length (check_path (length t₁) (length t₂) s₁ s₂)) where
+    promised : ds ≡ dates_of (check_moments (length t₁) (length t₂) s₁ s₂) → Promised s₁ s₂ t₁ t₂ l r u₁ u₂ ds v
+    promised e =
+        let c = ap (λ (b : Answer). b.code) p in
+        let m = check_zero (length t₁) (length t₂) s₁ s₂ in
+        rw (le-ltb (length l) path_words h) (record {
+          answers = p;
+          rows1 = x;
+          rows2 = y;
+          meets = λ _. (λ z. m.0 (sym c ∙ z), λ g. c ∙ m.1 g);
+          dated = e;
+          spans = rw e (spans (check_moments (length t₁) (length t₂) s₁ s₂));
+          paths = n;
+          steps = k;
+        })
 
--- ---- the schema is not accepted
+    -- "all three are 0 [..] on every other code"
+    undated : (r.answer.code ≡ 0 → ⊥) → ds ≡ no_dates → Promised s₁ s₂ t₁ t₂ l r u₁ u₂ ds v
+    unfolding check_moments earliest latest
+    undated f q = promised (q ∙ rw (ne_eqb (check_answer (length t₁) (length t₂) s₁ s₂).code 0 (λ z. f (ap (λ (b : Answer). b.code) p ∙ z))))
 
-pub check_unaccepted : (s₁ s₂ t₁ t₂ : List ℕ) {a : Answer} {u₂ : List ℕ} → a ≡ accept_answer (accept 2 (length t₂) s₂) → u₂ ≡ table_of t₂ (read_schema s₂)
-    → (a.code ≡ 0 → ⊥) → Promised s₁ s₂ t₁ t₂ a t₁ u₂ no_dates
-unfolding check_answer check_table
-check_unaccepted s₁ s₂ t₁ t₂ {a} q y n = let x = go (accept 2 (length t₂) s₂) q in without_dates s₁ s₂ t₁ t₂ x.0 x.1 y n
+-- ---- a text is refused, or has no room
+
+-- the answer is Check's, with a code below 20
+pub unread : (w₁ w₂ : ℕ) (s₁ s₂ : List ℕ) {a : Answer} → Err a ≡ both_result (accept 2 w₂ s₂) w₁ s₁
+    → (a ≡ check_answer w₁ w₂ s₁ s₂) × ((0 < a.code) × (a.code < 20))
+unfolding check_answer
+unread w₁ w₂ s₁ s₂ {a} e = go (accept 2 w₂ s₂) (accept_way 2 w₂ s₂) e
   where
-    go : (x : Accepted) → a ≡ accept_answer x → (a ≡ checked_as x (length t₁) s₁) × (t₁ ≡ table_after x t₁ s₁)
-    go (not_accepted b) e = (e, refl)
-    go (accepted d) e = absurd (n (ap (λ (b : Answer). b.code) e))
+    same : {b : Answer} → ◌≡◌ {A = Result (Unit {0}) Answer} (Err a) (Err b) → a ≡ b
+    same z = cc
 
--- ---- the schema is accepted, and the document read
+    by_room : (d : Located) (n : Node) (b : Bool)
+        → ◌≡◌ {A = Result (Unit {0}) Answer} (Err a) (cond b (Ok tt) (Err (answer 8 1 0 (size n))))
+        → (a ≡ cond b (mismatch_answer (mismatch_at s₁ d n)) (answer 8 1 0 (size n))) × ((0 < a.code) × (a.code < 20))
+    by_room d n true z = never (cc)
+    by_room d n false z = let q = same z in (q, omega (arith, ap (λ (b : Answer). b.code) q))
 
--- before the first date
-none : Tallied no_dates []
-unfolding earliest latest
-none = record { numbers = refl; first_fits = omega arith; last_fits = omega arith }
+    of_document : (d : Located) (o : Parse Node) → read_document s₁ ≡ o → Err a ≡ document_result w₁ o
+        → (a ≡ judged_as d w₁ s₁ o) × ((0 < a.code) × (a.code < 20))
+    of_document d (refused c p) r z = let q = same z in (q, omega (arith, ap (λ (b : Answer). b.code) q, read_code _ _ s₁ c p r))
+    of_document d (parsed n p) r z = by_room d n (leb (size n) (rows_in w₁)) z
 
--- a document that is refused, or has no room
-unjudged : (d : Located) (w : ℕ) (s : List ℕ) (o : Parse Node) → ((answer_of 1 w o).code ≡ 0 → ⊥) → answer_of 1 w o ≡ judged_as d w s o
-unfolding answer_of
-unjudged d w s (refused c p) n = refl
-unjudged d w s (parsed m e) n = go (leb (size m) (rows_in w)) n
-  where
-    go : (b : Bool) → ((cond b (answer 0 0 0 (size m)) (answer 8 1 0 (size m))).code ≡ 0 → ⊥)
-        → cond b (answer 0 0 0 (size m)) (answer 8 1 0 (size m)) ≡ cond b (mismatch_answer (mismatch_at s d m)) (answer 8 1 0 (size m))
-    go true f = absurd (f refl)
-    go false f = refl
+    go : (x : Accepted) → Way 2 w₂ s₂ x → Err a ≡ both_result x w₁ s₁ → (a ≡ checked_as x w₁ s₁) × ((0 < a.code) × (a.code < 20))
+    go (not_accepted b) w z = let q = same z in (q, omega (arith, ap (λ (b : Answer). b.code) q, w.0))
+    go (accepted d) w z = of_document d (read_document s₁) refl z
 
--- a schema that was accepted
-pub record HasAccepted (s t : List ℕ) : Type 0 where
+module _ (s₁ s₂ t₁ t₂ l : List ℕ) (h : path_words ≤ length l) where
+  pub promised_unread : {m : Result (Unit {0}) Answer} {a : Answer} {u₁ u₂ : List ℕ} → m ≡ both_result (accept 2 (length t₂) s₂) (length t₁) s₁ → m ≡ Err a
+      → u₁ ≡ check_table t₁ (length t₂) s₁ s₂ → u₂ ≡ table_of t₂ (read_schema s₂) → Promised s₁ s₂ t₁ t₂ l (record { answer = a; steps = 0 }) u₁ u₂ no_dates l
+  promised_unread e q x y =
+      let n = unread (length t₁) (length t₂) s₁ s₂ (sym q ∙ e) in
+      let p = sym (no_path (length t₁) (length t₂) s₁ s₂ (omega (arith, n, ap (λ (b : Answer). b.code) n.0))) in
+      undated s₁ s₂ t₁ t₂ l h n.0 x y (ap (λ (rs : List ℕ). list_after rs l) p) (ap length p) (λ z. omega (arith, n)) refl
+
+-- ---- both are read
+
+-- the definition that the schema is, and the document's tree
+pub record BothRead (s₁ s₂ t₁ t₂ : List ℕ) : Type 0 where
   pub definition : Located
-  pub accepts : accept 2 (length t) s ≡ accepted definition
-  pub takes : Takes (length t) s definition
+  pub accepts : accept 2 (length t₂) s₂ ≡ accepted definition
+  pub takes : Takes (length t₂) s₂ definition
+  pub document : HasRead document_limits s₁ t₁
 
-has_accepted : (s t : List ℕ) → (accept_answer (accept 2 (length t) s)).code ≡ 0 → HasAccepted s t
-has_accepted s t = go (accept 2 (length t) s) refl (accept_way 2 (length t) s)
+both_read : (s₁ s₂ t₁ t₂ : List ℕ) {u : Unit {0}} → Ok u ≡ both_result (accept 2 (length t₂) s₂) (length t₁) s₁ → BothRead s₁ s₂ t₁ t₂
+both_read s₁ s₂ t₁ t₂ {u} e = go (accept 2 (length t₂) s₂) refl (accept_way 2 (length t₂) s₂) e
   where
-    go : (x : Accepted) → accept 2 (length t) s ≡ x → Way 2 (length t) s x → (accept_answer x).code ≡ 0 → HasAccepted s t
-    go (not_accepted a) q h z = absurd (omega (arith, h.0))
-    go (accepted d) q h z = record { definition = d; accepts = q; takes = h.0 }
+    of_document : (o : Parse Node) → read_document s₁ ≡ o → Ok u ≡ document_result (length t₁) o → HasRead document_limits s₁ t₁
+    of_document (refused c p) r z = never (cc)
+    of_document (parsed n p) r z =
+        by_test (leb (size n) (rows_in (length t₁)))
+        (λ y. record { tree = n; end = p; reads = r; room = leb-true _ _ y })
+        (λ y. let k : Ok u ≡ Err (answer 8 1 0 (size n)) = rw y at z in never (cc))
 
--- the schema is accepted, so that its table is u₂; b is what reading the document answers, and u₁ its table then
-pub record BothRead (s₁ s₂ t₁ t₂ : List ℕ) (b : Answer) (u₁ u₂ : List ℕ) : Type 0 where
-  pub accepting : Answer
-  pub accepts : accepting ≡ accept_answer (accept 2 (length t₂) s₂)
-  pub zero : accepting.code ≡ 0
-  pub table : u₂ ≡ table_of t₂ (read_schema s₂)
-  pub reads : b ≡ answer_of 1 (length t₁) (read_document s₁)
-  pub rows : u₁ ≡ table_of t₁ (read_document s₁)
+    go : (x : Accepted) → accept 2 (length t₂) s₂ ≡ x → Way 2 (length t₂) s₂ x → Ok u ≡ both_result x (length t₁) s₁ → BothRead s₁ s₂ t₁ t₂
+    go (not_accepted b) q w z = never (cc)
+    go (accepted d) q w z = record { definition = d; accepts = q; takes = w.0; document = of_document (read_document s₁) refl z }
 
-module _ {s₁ s₂ t₁ t₂ : List ℕ} {b : Answer} {u₁ u₂ : List ℕ} (i : BothRead s₁ s₂ t₁ t₂ b u₁ u₂) where
-  taken : HasAccepted s₂ t₂
-  taken = has_accepted s₂ t₂ (sym (ap (λ (c : Answer). c.code) i.accepts) ∙ i.zero)
+-- their tables are u₁ and u₂
+pub record TablesRead (s₁ s₂ t₁ t₂ u₁ u₂ : List ℕ) : Type 0 where
+  pub both : BothRead s₁ s₂ t₁ t₂
+  pub rows1 : u₁ ≡ check_table t₁ (length t₂) s₁ s₂
+  pub rows2 : u₂ ≡ table_of t₂ (read_schema s₂)
 
-  -- the document's answer is Check's, and its table is as Read leaves it
-  answers : {r : Answer} → r ≡ judged_as taken.definition (length t₁) s₁ (read_document s₁) → r ≡ check_answer (length t₁) (length t₂) s₁ s₂
-  unfolding check_answer
-  answers e = rw taken.accepts e
+pub tables_read : (s₁ s₂ t₁ t₂ : List ℕ) {m : Result (Unit {0}) Answer} {u : Unit {0}} {u₁ u₂ : List ℕ} → m ≡ both_result (accept 2 (length t₂) s₂) (length t₁) s₁
+    → m ≡ Ok u → u₁ ≡ check_table t₁ (length t₂) s₁ s₂ → u₂ ≡ table_of t₂ (read_schema s₂) → TablesRead s₁ s₂ t₁ t₂ u₁ u₂
+tables_read s₁ s₂ t₁ t₂ e q x y = record { both = both_read s₁ s₂ t₁ t₂ (sym q ∙ e); rows1 = x; rows2 = y }
 
-  rows : u₁ ≡ check_table t₁ (length t₂) s₁ s₂
+module _ {s₁ s₂ t₁ t₂ u₁ u₂ : List ℕ} (i : TablesRead s₁ s₂ t₁ t₂ u₁ u₂) where
+  schema_read : HasRead schema_limits s₂ t₂
+  schema_read = let k = i.both.takes in record { tree = k.tree; end = k.read.end; reads = k.read.reads; room = k.read.room }
+
+  given : Judgeable s₁ s₂ (table_of t₁ (read_document s₁)) (table_of t₂ (read_schema s₂)) 0 0
+  unfolding schema_read
+  given = record {
+    document = has_rows i.both.document;
+    schema = has_rows schema_read;
+    definition = i.both.definition;
+    defines = i.both.takes.defines;
+  }
+
+  document_rows : u₁ ≡ table_of t₁ (read_document s₁)
   unfolding check_table
-  rows = rw taken.accepts i.rows
+  document_rows = i.rows1 ∙ rw i.both.accepts
 
-  pub check_unread : (b.code ≡ 0 → ⊥) → Promised s₁ s₂ t₁ t₂ b u₁ u₂ no_dates
-  check_unread n =
-      let e = i.reads ∙ unjudged taken.definition (length t₁) s₁ (read_document s₁) (λ e. n (ap (λ (c : Answer). c.code) i.reads ∙ e)) in
-      without_dates s₁ s₂ t₁ t₂ (answers e) rows i.table n
+  pub judgeable : Judgeable s₁ s₂ u₁ u₂ 0 0
+  judgeable = rw (document_rows, i.rows2) given
 
-  module _ (v : b.code ≡ 0) where
-    read₁ : HasRead document_limits s₁ t₁
-    read₁ = has_read document_limits 1 s₁ t₁ (sym (ap (λ (c : Answer). c.code) i.reads) ∙ v)
+  -- the moments of what is judged; a document has no more than are counted
+  abbrev found : List ℤ
+  found = moments s₁ (visits s₁ i.both.definition i.both.document.tree)
 
-    read₂ : HasRead schema_limits s₂ t₂
-    read₂ = let k = taken.takes in record { tree = k.tree; end = k.read.end; reads = k.read.reads; room = k.read.room }
+  few : length found ≤ most_dates
+  few =
+      let k = i.both.takes in
+      let d = i.both.document in
+      let json = read_json _ _ s₂ k.tree k.read.end k.read.reads in
+      let formed = definition_formed (value_of s₂ k.tree) json (bare i.both.definition) (defined_plain s₂ k.tree i.both.definition k.defines) in
+      omega (
+        arith,
+        moments_few s₁ i.both.definition formed d.tree,
+        read_rows _ _ s₁ d.tree d.end d.reads,
+        read_short _ _ s₁ d.tree d.end d.reads,
+      )
 
-    given : Judgeable s₁ s₂ (table_of t₁ (read_document s₁)) (table_of t₂ (read_schema s₂)) 0 0
-    unfolding read₂
-    given = record { document = has_rows read₁; schema = has_rows read₂; definition = taken.definition; defines = taken.takes.defines }
+  module _ {m : Judgement} {d d₂ : Dates} (j : Judged s₁ s₂ u₁ u₂ 0 0 m d d₂) where
+    walked : Walks s₁ (visits s₁ i.both.definition i.both.document.tree) m d d₂
+    unfolding given
+    walked = (rw (document_rows, i.rows2) at j).tells given
 
-    pub check_judgeable : Judgeable s₁ s₂ u₁ u₂ 0 0
-    check_judgeable = rw (i.rows, i.table) given
+    judges : check_answer (length t₁) (length t₂) s₁ s₂ ≡ mismatch_answer m
+    unfolding check_answer
+    judges = let r = i.both.document in rw (i.both.accepts, r.reads, le-leb (size r.tree) (rows_in (length t₁)) r.room, ← walked.first)
 
-    -- the moments of what is judged; a document has no more than `count` counts
-    abbrev found : List ℤ
-    found = moments s₁ (visits s₁ taken.definition read₁.tree)
+    module _ (l : List ℕ) (h : path_words ≤ length l) where
+      -- no mismatch: the dates are those that were counted
+      module _ {u : Unit {0}} (e : m ≡ Ok u) (t : Tallied d []) where
+        dates : numbers_of d₂ ≡ dates_of found
+        dates = let k = walked.counts e [] t in rw (k.count, k.first, k.last, le-leb (length found) most_dates few)
 
-    few : length found ≤ most_dates
-    few =
-        let k = taken.takes in
-        let json = read_json _ _ s₂ k.tree k.read.end k.read.reads in
-        let formed = definition_formed (value_of s₂ k.tree) json (bare taken.definition) (defined_plain s₂ k.tree taken.definition k.defines) in
-        omega (
-          arith,
-          moments_few s₁ taken.definition formed read₁.tree,
-          read_rows _ _ s₁ read₁.tree read₁.end read₁.reads,
-          read_short _ _ s₁ read₁.tree read₁.end read₁.reads,
-        )
-
-    module _ {m : Mismatch} {ds : List ℤ} (j : Judged s₁ s₂ u₁ u₂ 0 0 m no_dates ds) where
-      walked : Walks s₁ (visits s₁ taken.definition read₁.tree) m no_dates ds
-      unfolding given
-      walked = (rw (i.rows, i.table) at j).tells given
-
-      judges : judged_as taken.definition (length t₁) s₁ (read_document s₁) ≡ mismatch_answer m
-      judges = rw (read₁.reads, le-leb (size read₁.tree) (rows_in (length t₁)) read₁.room, ← walked.first)
-
-      pub check_mismatch : {c : Answer} → (m.code ≡ 0 → ⊥) → c ≡ answer m.code 1 m.place m.other → Promised s₁ s₂ t₁ t₂ c u₁ u₂ no_dates
-      check_mismatch n e =
-          without_dates s₁ s₂ t₁ t₂ (answers (e ∙ sym (judges ∙ rw (ne_eqb m.code 0 n)))) rows i.table (λ z. n (sym (ap (λ (c : Answer). c.code) e) ∙ z))
-
-      -- where there is no mismatch, the dates are those that were counted
-      module _ (n : m.code ≡ 0) where
-        zero : {c : Answer} → c ≡ answer 0 0 0 0 → c ≡ check_answer (length t₁) (length t₂) s₁ s₂
-        zero e = answers (e ∙ sym (judges ∙ rw (eq-eqb m.code 0 n)))
-
-        dates : ds ≡ dates_of found
-        dates = (walked.counts n [] none).numbers ∙ rw (le-leb (length found) most_dates few)
+        zero : check_answer (length t₁) (length t₂) s₁ s₂ ≡ answer 0 0 0 0
+        zero = judges ∙ ap mismatch_answer e
 
         all_found : check_moments (length t₁) (length t₂) s₁ s₂ ≡ found
         unfolding check_moments
-        all_found = rw (← zero refl, taken.accepts, read₁.reads)
+        all_found = rw (zero, i.both.accepts, i.both.document.reads)
 
-        pub check_meets : {c : Answer} → c ≡ answer 0 0 0 0 → Promised s₁ s₂ t₁ t₂ c u₁ u₂ ds
-        check_meets e = whole s₁ s₂ t₁ t₂ (zero e) rows i.table (rw all_found dates)
+        pub promised_met : {a : Answer} → a ≡ answer 0 0 0 0 → {ds : List ℤ} → ds ≡ numbers_of d₂
+            → Promised s₁ s₂ t₁ t₂ l (record { answer = a; steps = 0 }) u₁ u₂ ds l
+        promised_met q y =
+            let p = sym (no_path (length t₁) (length t₂) s₁ s₂ (omega (arith, ap (λ (b : Answer). b.code) zero))) in
+            promised s₁ s₂ t₁ t₂ l h (q ∙ sym zero) i.rows1 i.rows2 (ap (λ (rs : List ℕ). list_after rs l) p) (ap length p) (y ∙ dates ∙ rw all_found)
+
+      -- a mismatch: the path leads to it
+      module _ {x : Mismatch} (e : m ≡ Err x) where
+        told : check_answer (length t₁) (length t₂) s₁ s₂ ≡ mismatch_answer (Err x)
+        told = judges ∙ ap mismatch_answer e
+
+        known : HasMismatch (length t₁) (length t₂) s₁ s₂
+        known = has_mismatch (length t₁) (length t₂) s₁ s₂ (omega (arith, ap (λ (b : Answer). b.code) told, number_bounds x.code))
+
+        place : (check_answer (length t₁) (length t₂) s₁ s₂).place ≡ x.place
+        place = ap (λ (b : Answer). b.place) told
+
+        pub mismatch_ready : PathReady u₁ x.place l
+        mismatch_ready = rw place at (path_ready known t₁ refl i.rows1 l h)
+
+        module _ {k : ℕ} {v : List ℕ} (w : PathWritten u₁ x.place k l v) where
+          done : (k ≡ length (check_path (length t₁) (length t₂) s₁ s₂)) × (v ≡ list_after (check_path (length t₁) (length t₂) s₁ s₂) l) × (k ≤ path_words)
+          done = path_done known t₁ refl i.rows1 l h (rw (← place) at w)
+
+          pub mismatch_fits : k ≤ path_words
+          mismatch_fits = done.2
+
+          pub promised_mismatch : {a : Answer} → a ≡ mismatch_answer (Err x) → Promised s₁ s₂ t₁ t₂ l (record { answer = a; steps = k }) u₁ u₂ no_dates v
+          promised_mismatch q =
+              undated s₁ s₂ t₁ t₂ l h (q ∙ sym told) i.rows1 i.rows2 done.1 done.0
+              (λ z. omega (arith, number_bounds x.code, ap (λ (b : Answer). b.code) q, z)) refl

@@ -4,10 +4,11 @@ use mathlib.Core.Path.{◌≡◌, refl}
 use mathlib.Core.Logic.{◌↔◌}
 use mathlib.Core.List.{List}
 use native.Mathlib.Omega.{arith}
-use lib.Dec.{leb, eqb}
-use borrow.Author.Tests.{leb-true, leb-false, eqb-true}
+use lib.Dec.{leb}
+use borrow.Author.Tests.{leb-true, leb-false}
+use Rattle.std.specs.Prelude.{Ok, Err}
 use Rattle.model.specs.Meeting.{Meets}
-use Rattle.model.proofs.Basics.{both}
+use Rattle.model.proofs.Basics.{never, both}
 use Rattle.syntax.specs.Tree.{Node}
 use Rattle.syntax.specs.Rows.{size}
 use Rattle.syntax.specs.Spelling.{value_of}
@@ -15,11 +16,11 @@ use Rattle.syntax.specs.Answer.{rows_in}
 use Rattle.syntax.specs.declared.answers.Answer.{Answer}
 use Rattle.syntax.proofs.Theorems.{read_placed, read_json, read_code}
 use Rattle.definitions.specs.Definitions.{Located, bare}
-use Rattle.schema.specs.Judging.{mismatch_at}
+use Rattle.schema.specs.Judging.{Judgement, nothing, mismatch_at}
 use Rattle.schema.specs.Checking.{read_document, mismatch_answer, judged_as, checked_as, check_answer, Meeting}
 use Rattle.definitions.specs.Accepting.{Accepted, not_accepted, accepted, accept, HasRoom}
-use Rattle.schema.specs.declared.judging.Mismatch.{Mismatch}
 use Rattle.definitions.proofs.Facts.{defined_plain, some_defined, by_parse, refused_none, one_tree, no_room, Takes, Way, accept_way}
+use Rattle.schema.proofs.judging.Codes.{number_bounds}
 use Rattle.schema.proofs.judging.Meeting.{meets_nothing, nothing_meets}
 
 -- ---- the document
@@ -30,9 +31,9 @@ record Fits (d : Located) (w : ℕ) (s : List ℕ) : Type 0 where
   read : HasRoom (read_document s) w tree
   meets : Meets (bare d) (value_of s tree)
 
-pub answer_zero : (m : Mismatch) → ((mismatch_answer m).code ≡ 0) ↔ (m.code ≡ 0)
-answer_zero m =
-    both (λ (a : Answer). (a.code ≡ 0) ↔ (m.code ≡ 0)) (eqb m.code 0) (λ t. (λ _. eqb-true _ _ t, λ _. refl)) (λ t. (λ z. z, λ z. z))
+pub answer_zero : (m : Judgement) → ((mismatch_answer m).code ≡ 0) ↔ (m ≡ nothing)
+answer_zero (Ok u) = (λ _. refl, λ _. refl)
+answer_zero (Err m) = (λ z. absurd (omega (arith, number_bounds m.code)), λ z. never (cc))
 
 judged_zero : (d : Located) (w : ℕ) (s : List ℕ) → ((judged_as d w s (read_document s)).code ≡ 0) ↔ Fits d w s
 judged_zero d w s =

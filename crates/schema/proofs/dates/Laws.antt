@@ -1,20 +1,21 @@
--- One moment more, on plain values: a law for each way out of `count`. A signed number is read back through its bits.
-use Prim.Native.Nat.{ℕ, suc, ◌+◌, ◌-◌, ◌≤◌, ◌<◌}
-use mathlib.Core.Path.{◌≡◌, refl, sym, ap₂, subst, ◌∙◌}
-use mathlib.Core.Bool.{true, false}
+-- One moment more, on plain values. A signed number is read back through its bits.
+use Prim.Native.Nat.{ℕ, ◌+◌, ◌≤◌, ◌<◌}
+use mathlib.Core.Path.{◌≡◌, refl, sym, ◌∙◌}
 use mathlib.Core.List.{List, [], ◌∷◌, ◌++◌}
 use native.Mathlib.Omega.{arith}
-use lib.Dec.{leb, ltb}
-use lib.IntN.{ℤ, pos, sub_ℕ, ◌+ℤ◌}
-use lib.ListN.{length, length-append, get_or, set}
-use lib.Signed.{mag, lt_z}
+use lib.Dec.{leb}
+use lib.IntN.{ℤ, pos}
+use lib.ListN.{length, length-append}
+use lib.Signed.{mag}
 use mir.Syntax.{w64}
 use mir.Val.{SFits, to_z, of_z}
 use mir.ValLaws.{to_z-of_z}
-use borrow.Author.Tests.{ltb-true, ltb-false, leb-true, leb-false, le-leb, lt-leb}
-use Rattle.model.proofs.Basics.{both, by_test}
+use borrow.Author.Tests.{leb-true, leb-false, le-leb, lt-leb}
+use Rattle.std.specs.Int.{int_min, int_max}
+use Rattle.model.proofs.Basics.{by_test}
 use Rattle.schema.specs.Dates.{lesser, greater, least_of, greatest_of, earliest, latest}
 use Rattle.schema.specs.Walks.{most_dates, capped, Tallied, Counted}
+use Rattle.schema.specs.declared.dates.Dates.{Dates}
 
 -- a number as it is read back
 abbrev plain : ℤ → ℤ
@@ -26,29 +27,7 @@ Small z = mag z < 9223372036854775808
 back : (z : ℤ) → Small z → plain z ≡ z
 back z h = to_z-of_z w64 z (record { sfits = h })
 
--- ---- the lesser and the greater
-
-module _ (a b : ℤ) (p : SFits w64 a) (q : SFits w64 b) where
-  plain_test : lt_z (plain a) (plain b) ≡ lt_z a b
-  plain_test = ap₂ lt_z (to_z-of_z w64 a p) (to_z-of_z w64 b q)
-
-  pub lesser_first : lt_z (plain a) (plain b) ≡ true → plain a ≡ lesser a b
-  lesser_first h = to_z-of_z w64 a p ∙ rw (sym plain_test ∙ h)
-
-  pub lesser_second : lt_z (plain a) (plain b) ≡ false → plain b ≡ lesser a b
-  lesser_second h = to_z-of_z w64 b q ∙ rw (sym plain_test ∙ h)
-
-  pub greater_second : lt_z (plain a) (plain b) ≡ true → plain b ≡ greater a b
-  greater_second h = to_z-of_z w64 b q ∙ rw (sym plain_test ∙ h)
-
-  pub greater_first : lt_z (plain a) (plain b) ≡ false → plain a ≡ greater a b
-  greater_first h = to_z-of_z w64 a p ∙ rw (sym plain_test ∙ h)
-
-lesser_small : (a b : ℤ) → Small a → Small b → Small (lesser a b)
-lesser_small a b p q = both Small (lt_z a b) (λ _. p) (λ _. q)
-
-greater_small : (a b : ℤ) → Small a → Small b → Small (greater a b)
-greater_small a b p q = both Small (lt_z a b) (λ _. q) (λ _. p)
+-- ---- the earliest and the latest
 
 least_more : (a k : ℤ) (ms : List ℤ) → least_of a (ms ++ (k ∷ [])) ≡ lesser k (least_of a ms)
 unfolding least_of
@@ -87,68 +66,39 @@ capped_full n h =
 capped_none : (n : ℕ) → capped n ≡ 0 → n ≡ 0
 capped_none n h = by_test (leb n most_dates) (λ t. let e : capped n ≡ n = rw t in sym e ∙ h) (λ t. absurd (let e : capped n ≡ most_dates = rw t in omega arith))
 
-capped_small : (n : ℕ) → capped n ≤ most_dates
-capped_small n = both (λ (k : ℕ). k ≤ most_dates) (leb n most_dates) (λ t. leb-true n most_dates t) (λ _. omega arith)
+-- ---- `add`
 
--- ---- `count`
+pub tallied_none : Tallied (record { count = 0; earliest = pos 0; latest = pos 0 }) []
+unfolding earliest latest
+tallied_none = record { count = refl; first = refl; last = refl; first_fits = omega arith; last_fits = omega arith }
 
--- a number below the most has a next one
-pub next_fits : (n : ℕ) → lt_z (to_z w64 n) (pos 65536) ≡ true → SFits w64 (to_z w64 n +ℤ pos 1)
-next_fits n h = by_test (ltb n 9223372036854775808)
-    (λ t. record { sfits = rw t (omega (arith, ltb-true n 65536 (rw t at h))) })
-    (λ t. record { sfits = rw t (below (18446744073709551616 - suc n) (omega (arith, ltb-false n 9223372036854775808 t))) })
-  where
-    below : (k : ℕ) → k < 9223372036854775808 → mag (sub_ℕ 1 (suc k)) < 9223372036854775808
-    below k l = both (λ (z : ℤ). mag z < 9223372036854775808) (ltb 1 (suc k)) (λ _. omega arith) (λ _. omega arith)
-
-module _ {k : ℤ} (f : SFits w64 k) {ds : List ℤ} where
-  pub count_first : of_z w64 (get_or ds 0 (pos 0)) ≡ 0 → Counted k ds (pos 1 ∷ plain k ∷ plain k ∷ [])
+module _ {k : ℤ} (f : SFits w64 k) {d : Dates} where
+  pub first_counted : d.count ≡ 0 → Counted k d (record { count = 1; earliest = plain k; latest = plain k })
   unfolding earliest latest least_of greatest_of
-  count_first z ms t = go ms (capped_none (length ms) (subst (λ (l : List ℤ). of_z w64 (get_or l 0 (pos 0)) ≡ 0) t.numbers z))
+  first_counted z ms t = go ms (capped_none (length ms) (sym t.count ∙ z))
     where
-      go : (ms : List ℤ) → length ms ≡ 0 → Tallied (pos 1 ∷ plain k ∷ plain k ∷ []) (ms ++ (k ∷ []))
-      go [] e = record { numbers = rw (back k f.sfits); first_fits = f.sfits; last_fits = f.sfits }
+      go : (ms : List ℤ) → length ms ≡ 0 → Tallied (record { count = 1; earliest = plain k; latest = plain k }) (ms ++ (k ∷ []))
+      go [] e = rw (back k f.sfits) (record { count = refl; first = refl; last = refl; first_fits = f.sfits; last_fits = f.sfits })
       go (m ∷ ms) e = absurd (omega arith)
 
-  module _ (z : of_z w64 (get_or ds 0 (pos 0)) ≡ 0 → ⊥) {a b : ℤ} (p : a ≡ lesser (plain k) (plain (get_or ds 1 (pos 0))))
-      (q : b ≡ greater (plain (get_or (set ds 1 (plain a)) 2 (pos 0))) (plain k)) (ms : List ℤ) (t : Tallied ds ms) where
-    some : length ms ≡ 0 → ⊥
-    some e = z (subst (λ (l : List ℤ). of_z w64 (get_or l 0 (pos 0)) ≡ 0) (sym t.numbers) (rw e))
-
-    first : plain a ≡ earliest (ms ++ (k ∷ []))
-    first =
-        let h : a ≡ lesser k (earliest ms) = p ∙ rw (t.numbers, back k f.sfits, back (earliest ms) t.first_fits) in
-        rw h (back (lesser k (earliest ms)) (lesser_small k (earliest ms) f.sfits t.first_fits) ∙ sym (earliest_more ms k some))
-
-    last : plain b ≡ latest (ms ++ (k ∷ []))
-    last =
-        let h : b ≡ greater (latest ms) k = q ∙ rw (t.numbers, back k f.sfits, back (latest ms) t.last_fits) in
-        rw h (back (greater (latest ms) k) (greater_small (latest ms) k t.last_fits f.sfits) ∙ sym (latest_more ms k some))
-
+  module _ (z : d.count ≡ 0 → ⊥) {a b : ℤ} (p : a ≡ int_min (plain d.earliest) (plain k)) (q : b ≡ int_max (plain k) (plain d.latest))
+      (v : Small a) (w : Small b) where
     -- the count is n
-    tallied : (n : ℕ) → n ≡ capped (length ms + 1) → Tallied (pos n ∷ plain a ∷ plain b ∷ []) (ms ++ (k ∷ []))
-    tallied n e = record {
-      numbers = rw (first, last, length-append ms (k ∷ []), e);
-      first_fits = rw (earliest_more ms k some) (lesser_small k (earliest ms) f.sfits t.first_fits);
-      last_fits = rw (latest_more ms k some) (greater_small (latest ms) k t.last_fits f.sfits);
-    }
+    further : (n : ℕ) (ms : List ℤ) → Tallied d ms → n ≡ capped (length ms + 1) → Tallied (record { count = n; earliest = plain a; latest = plain b }) (ms ++ (k ∷ []))
+    further n ms t e =
+        let some : length ms ≡ 0 → ⊥ = λ l. z (t.count ∙ rw l) in
+        let x : a ≡ lesser k (earliest ms) = p ∙ rw (back k f.sfits, back d.earliest t.first_fits, t.first) in
+        let y : b ≡ greater (latest ms) k = q ∙ rw (back k f.sfits, back d.latest t.last_fits, t.last) in
+        rw (back a v, back b w) (record {
+          count = rw (length-append ms (k ∷ []), e);
+          first = x ∙ sym (earliest_more ms k some);
+          last = y ∙ sym (latest_more ms k some);
+          first_fits = v;
+          last_fits = w;
+        })
 
-  module _ (z : of_z w64 (get_or ds 0 (pos 0)) ≡ 0 → ⊥) {a b : ℤ} (p : a ≡ lesser (plain k) (plain (get_or ds 1 (pos 0))))
-      (q : b ≡ greater (plain (get_or (set ds 1 (plain a)) 2 (pos 0))) (plain k)) where
-    pub count_more : lt_z (plain (get_or ds 0 (pos 0))) (pos 65536) ≡ true
-        → Counted k ds (set (set (set ds 1 (plain a)) 2 (plain b)) 0 (plain (plain (get_or ds 0 (pos 0)) +ℤ pos 1)))
-    count_more h ms t =
-        let n = capped (length ms) in
-        let small = capped_small (length ms) in
-        let e : plain (pos n) ≡ pos n = back (pos n) (omega (arith, small)) in
-        let less : n < 65536 = ltb-true n 65536 (rw e at (subst (λ (l : List ℤ). lt_z (plain (get_or l 0 (pos 0))) (pos 65536) ≡ true) t.numbers h)) in
-        let sum : plain (pos n +ℤ pos 1) ≡ pos (n + 1) = back (pos (n + 1)) (omega (arith, small)) in
-        rw (t.numbers, e, sum) (tallied z p q ms t (n + 1) (sym (capped_more (length ms) less)))
+    pub more_counted : d.count < most_dates → Counted k d (record { count = d.count + 1; earliest = plain a; latest = plain b })
+    more_counted l ms t = further (d.count + 1) ms t (rw t.count (sym (capped_more (length ms) (rw t.count at l))))
 
-    pub count_full : lt_z (plain (get_or ds 0 (pos 0))) (pos 65536) ≡ false → Counted k ds (set (set ds 1 (plain a)) 2 (plain b))
-    count_full h ms t =
-        let n = capped (length ms) in
-        let small = capped_small (length ms) in
-        let e : plain (pos n) ≡ pos n = back (pos n) (omega (arith, small)) in
-        let full : 65536 ≤ n = ltb-false n 65536 (rw e at (subst (λ (l : List ℤ). lt_z (plain (get_or l 0 (pos 0))) (pos 65536) ≡ false) t.numbers h)) in
-        rw t.numbers (tallied z p q ms t n (sym (capped_full (length ms) full)))
+    pub full_counted : most_dates ≤ d.count → Counted k d (record { count = d.count; earliest = plain a; latest = plain b })
+    full_counted l ms t = further d.count ms t (rw t.count (sym (capped_full (length ms) (rw t.count at l))))

@@ -2,9 +2,9 @@
 use Prim.Native.Nat.{ℕ, ◌+◌, ◌≤◌}
 use mathlib.Core.Path.{◌≡◌, refl, subst}
 use mathlib.Core.Bool.{Bool, true, false, cond, ◌&&◌, ◌||◌}
-use mathlib.Core.Option.{Option, none, some}
 use mathlib.Core.List.{List, [], ◌∷◌, ◌++◌}
 use native.Mathlib.Omega.{arith}
+use Rattle.std.specs.Prelude.{Option, Some, None}
 use lib.ListN.{length, length-append}
 use Rattle.model.specs.Text.{same}
 use Rattle.model.specs.Definition.{Named, JSON, Schema, Float, Integer, String, Boolean, DateTime, has_field, disjoint}
@@ -84,8 +84,8 @@ module _ (P : ℕ → Bool) where
 
   module _ (s : List ℕ) where
     abbrev under : Option Node → ℕ
-    under none = 0
-    under (some n) = strings n
+    under None = 0
+    under (Some n) = strings n
 
     -- how many strings stand under the names of fields
     abbrev taken : LocatedFields → Members → ℕ
@@ -145,8 +145,8 @@ module _ (P : ℕ → Bool) where
 
     name_once : (o : Option Node) (absent : List Visit) (v : Node → List Visit) → as_dates absent ≡ 0 → ((n : Node) → as_dates (v n) ≤ strings n)
         → as_dates (at_name o absent v) ≤ under o
-    name_once none absent v z h = omega (arith, z)
-    name_once (some n) absent v z h = h n
+    name_once None absent v z h = omega (arith, z)
+    name_once (Some n) absent v z h = h n
 
     array_once : (p : ℕ) (d : Located) → ((n : Node) → as_dates (visits s d n) ≤ strings n) → (n : Node) → as_dates (visits s (array_at p d) n) ≤ strings n
     array_once p d h (scalar k f e) = omega arith

@@ -11,7 +11,7 @@ use lib.Signed.{le_z}
 use borrow.Author.Tests.{eqb-true}
 use Rattle.model.specs.Definition.{JSON, Schema, Float, Integer, String, Boolean, DateTime}
 use Rattle.model.specs.Date.{is_date, moment}
-use Rattle.model.proofs.Basics.{both, by_test}
+use Rattle.model.proofs.Basics.{never, both, by_test}
 use Rattle.model.proofs.Moments.{least, greatest}
 use Rattle.tokens.specs.declared.tokens.Kind.TheVariants.{Null, False, True, Whole, Fractional, Quoted}
 use Rattle.tokens.specs.Parse.{Parse, refused, parsed}
@@ -22,7 +22,8 @@ use Rattle.syntax.specs.Answer.{rows_in}
 use Rattle.syntax.specs.declared.answers.Answer.{Answer}
 use Rattle.definitions.specs.Definitions.{Located, named-at, array_at, map_at, object-at}
 use Rattle.definitions.specs.Accepting.{Accepted, not_accepted, accepted, accept}
-use Rattle.schema.specs.Judging.{mismatch, nothing, date_of, Visit, value-by, missing_name, mismatch_of, visits, first_mismatch, mismatch_at}
+use Rattle.schema.specs.Judging.{mismatched, nothing, date_of, Visit, value-by, missing_name, mismatch_of, visits, first_mismatch, mismatch_at}
+use Rattle.schema.specs.declared.judging.MismatchCode.TheVariants.{NoDate}
 use Rattle.schema.specs.Dates.{visit_moment, moments, Listed}
 use Rattle.schema.specs.Checking.{read_document, checked_as, judged_as, check_answer, judged_moments, check_moments}
 use Rattle.schema.proofs.judging.Visits.{or_none}
@@ -41,15 +42,15 @@ module _ (s : List ℕ) (m : ℤ) where
   one_of_two (x ∷ xs) ys (inl e) = inl (inl e)
   one_of_two (x ∷ xs) ys (inr h) = elim (one_of_two xs ys h) [ inl a ↦ inl (inr a) | inr b ↦ inr b ]
 
-  string_written : (p f e : ℕ) → (date_of s p Quoted f e).code ≡ 0 → Listed m (moment (name_of s f e) ∷ []) → Written s m
+  string_written : (p f e : ℕ) → date_of s p Quoted f e ≡ nothing → Listed m (moment (name_of s f e) ∷ []) → Written s m
   string_written p f e z (inr h) = absurd h
   string_written p f e z (inl q) = record { first = f; last = e; is-date = go (is_date (name_of s f e)) z; is = q }
     where
-      go : (b : Bool) → (cond b nothing (mismatch 22 f p)).code ≡ 0 → b ≡ true
+      go : (b : Bool) → cond b nothing (mismatched NoDate f p) ≡ nothing → b ≡ true
       go true z = refl
-      go false z = absurd (omega arith)
+      go false z = never (cc)
 
-  date_written : (p : ℕ) (n : Node) → (mismatch_of s (value-by (named-at p DateTime) n)).code ≡ 0
+  date_written : (p : ℕ) (n : Node) → mismatch_of s (value-by (named-at p DateTime) n) ≡ nothing
       → Listed m (visit_moment s (value-by (named-at p DateTime) n)) → Written s m
   date_written p (scalar Null f e) z h = absurd h
   date_written p (scalar False f e) z h = absurd h
@@ -60,7 +61,7 @@ module _ (s : List ℕ) (m : ℤ) where
   date_written p (array f e ns) z h = absurd h
   date_written p (object f e ms) z h = absurd h
 
-  one_written : (v : Visit) → (mismatch_of s v).code ≡ 0 → Listed m (visit_moment s v) → Written s m
+  one_written : (v : Visit) → mismatch_of s v ≡ nothing → Listed m (visit_moment s v) → Written s m
   one_written (value-by (named-at p JSON) n) z h = absurd h
   one_written (value-by (named-at p Schema) n) z h = absurd h
   one_written (value-by (named-at p Float) n) z h = absurd h
@@ -73,7 +74,7 @@ module _ (s : List ℕ) (m : ℤ) where
   one_written (value-by (object-at p r o) n) z h = absurd h
   one_written (missing_name brace q) z h = absurd h
 
-  all_written : (vs : List Visit) → (first_mismatch s vs).code ≡ 0 → Listed m (moments s vs) → Written s m
+  all_written : (vs : List Visit) → first_mismatch s vs ≡ nothing → Listed m (moments s vs) → Written s m
   all_written [] z h = absurd h
   all_written (v ∷ vs) z h =
       let o = (or_none (mismatch_of s v) (first_mismatch s vs)).0 z in
@@ -82,9 +83,9 @@ module _ (s : List ℕ) (m : ℤ) where
 -- ---- of Check's own moments
 
 module _ (w₁ w₂ : ℕ) (document schema : List ℕ) (m : ℤ) where
-  judged_zero : (d : Located) (n : Node) (e : ℕ) → (judged_as d w₁ document (parsed n e)).code ≡ 0 → (mismatch_at document d n).code ≡ 0
+  judged_zero : (d : Located) (n : Node) (e : ℕ) → (judged_as d w₁ document (parsed n e)).code ≡ 0 → mismatch_at document d n ≡ nothing
   judged_zero d n e =
-      both (λ (a : Answer). a.code ≡ 0 → (mismatch_at document d n).code ≡ 0) (leb (size n) (rows_in w₁))
+      both (λ (a : Answer). a.code ≡ 0 → mismatch_at document d n ≡ nothing) (leb (size n) (rows_in w₁))
       (λ _ z. (answer_zero (mismatch_at document d n)).0 z) (λ _ z. absurd (omega arith))
 
   pub check_written : Listed m (check_moments w₁ w₂ document schema) → Written document m

@@ -3,8 +3,8 @@ use Prim.Native.Nat.{ℕ}
 use mathlib.Core.Path.{◌≡◌, refl, subst}
 use mathlib.Core.Logic.{inl, inr}
 use mathlib.Core.Bool.{true, false}
-use mathlib.Core.Option.{Option, none, some}
 use mathlib.Core.List.{List}
+use Rattle.std.specs.Prelude.{Option, Some, None}
 use Rattle.model.specs.Text.{same}
 use Rattle.model.specs.Value.{Value, Members as ValueMembers, mnil, mcons, Under, has_name, IsJson, AreMembers}
 use Rattle.model.proofs.Basics.{both, same_eq, same_of, or-false, or_left, or_right, clash}
@@ -31,8 +31,8 @@ module _ (s : List ℕ) where
     pub json : AreMembers (members_of s ms) → IsJson (value_of s m)
 
   abbrev pub Looked : List ℕ → Members → Option Node → Type 0
-  Looked k ms none = has_name k (members_of s ms) ≡ false
-  Looked k ms (some m) = Found k ms m
+  Looked k ms None = has_name k (members_of s ms) ≡ false
+  Looked k ms (Some m) = Found k ms m
 
   -- the first member has the name
   found_first : (k : List ℕ) (f e : ℕ) (n : Node) (ms : Members) → same k (name_of s f e) ≡ true → Found k (member f e n ms) n
@@ -49,8 +49,8 @@ module _ (s : List ℕ) where
   -- or one behind it
   found_later : (k : List ℕ) (f e : ℕ) (n : Node) (ms : Members) → same k (name_of s f e) ≡ false
       → (o : Option Node) → Looked k ms o → Looked k (member f e n ms) o
-  found_later k f e n ms t none h = rw t h
-  found_later k f e n ms t (some m) h = record {
+  found_later k f e n ms t None h = rw t h
+  found_later k f e n ms t (Some m) h = record {
     has = or_right (same k (name_of s f e)) (has_name k (members_of s ms)) h.has;
     under = inr h.under;
     only = λ j w u. elim u [ inl q ↦ clash (same k (name_of s f e)) (same_of k (name_of s f e) q.0) t | inr r ↦ h.only j.3 w r ];
@@ -65,9 +65,9 @@ module _ (s : List ℕ) where
       (λ t. found_first k f e n ms t) (λ t. found_later k f e n ms t (lookup s k ms) (looked k ms))
 
   -- a value that is looked up
-  pub lookup_found : (k : List ℕ) (ms : Members) (x : Node) → lookup s k ms ≡ some x → Found k ms x
+  pub lookup_found : (k : List ℕ) (ms : Members) (x : Node) → lookup s k ms ≡ Some x → Found k ms x
   lookup_found k ms x e = subst (Looked k ms) e (looked k ms)
 
   -- a name under which none is
-  pub lookup_none : (k : List ℕ) (ms : Members) → lookup s k ms ≡ none → has_name k (members_of s ms) ≡ false
+  pub lookup_none : (k : List ℕ) (ms : Members) → lookup s k ms ≡ None → has_name k (members_of s ms) ≡ false
   lookup_none k ms e = subst (Looked k ms) e (looked k ms)

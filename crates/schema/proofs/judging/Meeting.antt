@@ -3,14 +3,13 @@ use Prim.Native.Nat.{ℕ}
 use mathlib.Core.Path.{◌≡◌, refl, sym, ◌∙◌}
 use mathlib.Core.Logic.{inl, inr, ◌↔◌}
 use mathlib.Core.Bool.{Bool, true, false, cond, false≢true}
-use mathlib.Core.Option.{Option, none, some}
 use mathlib.Core.List.{List, [], ◌∷◌}
-use native.Mathlib.Omega.{arith}
+use Rattle.std.specs.Prelude.{Option, Some, None}
 use Rattle.model.specs.Value.{Value, Values, Among, Under, has_name, is_integer, IsJson, AreJson, AreMembers, Members as ValueMembers}
 use Rattle.model.specs.Definition.{Named, JSON, Schema, Float, Integer, String, Boolean, DateTime, definition_of}
 use Rattle.model.specs.Date.{is_date}
 use Rattle.model.specs.Meeting.{is_some, if_number, if_string, if_boolean, IfArray, IfObject, meets_named, HasNames, Meets, FieldsMeet}
-use Rattle.model.proofs.Basics.{clash}
+use Rattle.model.proofs.Basics.{never, clash}
 use Rattle.tokens.specs.declared.tokens.Kind.{Kind}
 use Rattle.tokens.specs.declared.tokens.Kind.TheVariants.{Null, False, True, Whole, Fractional, Quoted}
 use Rattle.syntax.specs.Tree.{Node, scalar, array, object, Nodes, none as no_Node, more, Members, no_member, member, place_of}
@@ -18,19 +17,20 @@ use Rattle.syntax.specs.Grammar.{name_of}
 use Rattle.syntax.specs.Spelling.{scalar_of, value_of, values_of, members_of}
 use Rattle.syntax.specs.Holding.{Placed, PlacedAll, PlacedMembers}
 use Rattle.definitions.specs.Definitions.{Located, named-at, array_at, map_at, object-at, LocatedFields, no_field, field, bare, bare_fields}
-use Rattle.schema.specs.Judging.{mismatch, nothing, or_else, unless, is_whole, is_number, is_string, is_boolean, if_scalar, date_of, date_at}
+use Rattle.schema.specs.Judging.{mismatched, nothing, or_else, unless, is_whole, is_number, is_string, is_boolean, if_scalar, date_of, date_at}
 use Rattle.schema.specs.Judging.{named_at, is_object, Visit, value-by, in_array, in_object, each_element, each_member, at_name}
 use Rattle.schema.specs.Judging.{missing, skipped, visits, field_visits, first_mismatch, mismatch_at}
 use Rattle.rows.specs.Finding.{lookup}
 use Rattle.schema.proofs.judging.Visits.{append_none, one_none}
 use Rattle.schema.proofs.judging.Looking.{not_under, Looked, looked}
-use Rattle.schema.proofs.judging.Codes.{mismatch_code}
+use Rattle.schema.specs.declared.judging.MismatchCode.{MismatchCode}
+use Rattle.schema.specs.declared.judging.MismatchCode.TheVariants.{WrongKind, NoDate}
 
 -- ---- tests
 
-unless_none : (ok test : Bool) → ok ≡ test → (f p : ℕ) → ((unless ok f p).code ≡ 0) ↔ (test ≡ true)
+unless_none : (ok test : Bool) → ok ≡ test → (f p : ℕ) → (unless ok f p ≡ nothing) ↔ (test ≡ true)
 unless_none true test e f p = (λ _. sym e, λ _. refl)
-unless_none false test e f p = (λ z. absurd (omega arith), λ t. absurd (false≢true (e ∙ t)))
+unless_none false test e f p = (λ z. never (cc), λ t. absurd (false≢true (e ∙ t)))
 
 -- ---- type names
 
@@ -88,28 +88,28 @@ module _ (s : List ℕ) where
   boolean_boolean (array f e ns) = refl
   boolean_boolean (object f e ms) = refl
 
-  -- a mismatch of any code, where the test fails
-  failing : (c : ℕ) → (c ≡ 0 → ⊥) → (c ≡ 0) ↔ (false ≡ true)
-  failing c h = (λ z. absurd (h z), λ t. absurd (false≢true t))
+  -- a mismatch, where the test fails
+  failing : (c : MismatchCode) (f p : ℕ) → (mismatched c f p ≡ nothing) ↔ (false ≡ true)
+  failing c f p = (λ z. never (cc), λ t. absurd (false≢true t))
 
-  date_none : (p : ℕ) (n : Node) → ((date_at s p n).code ≡ 0) ↔ (if_string is_date (value_of s n) ≡ true)
+  date_none : (p : ℕ) (n : Node) → (date_at s p n ≡ nothing) ↔ (if_string is_date (value_of s n) ≡ true)
   date_none p (scalar k f e) = of-kind k
     where
-      of_date : (b : Bool) → ((cond b nothing (mismatch 22 f p)).code ≡ 0) ↔ (b ≡ true)
+      of_date : (b : Bool) → (cond b nothing (mismatched NoDate f p) ≡ nothing) ↔ (b ≡ true)
       of_date true = (λ _. refl, λ _. refl)
-      of_date false = failing 22 (λ z. omega arith)
+      of_date false = failing NoDate f p
 
-      of-kind : (k : Kind) → ((date_of s p k f e).code ≡ 0) ↔ (if_string is_date (scalar_of s k f e) ≡ true)
-      of-kind Null = failing 20 (λ z. omega arith)
-      of-kind False = failing 20 (λ z. omega arith)
-      of-kind True = failing 20 (λ z. omega arith)
-      of-kind Whole = failing 20 (λ z. omega arith)
-      of-kind Fractional = failing 20 (λ z. omega arith)
+      of-kind : (k : Kind) → (date_of s p k f e ≡ nothing) ↔ (if_string is_date (scalar_of s k f e) ≡ true)
+      of-kind Null = failing WrongKind f p
+      of-kind False = failing WrongKind f p
+      of-kind True = failing WrongKind f p
+      of-kind Whole = failing WrongKind f p
+      of-kind Fractional = failing WrongKind f p
       of-kind Quoted = of_date (is_date (name_of s f e))
-  date_none p (array f e ns) = failing 20 (λ z. omega arith)
-  date_none p (object f e ms) = failing 20 (λ z. omega arith)
+  date_none p (array f e ns) = failing WrongKind f p
+  date_none p (object f e ms) = failing WrongKind f p
 
-  named_none : (p : ℕ) (t : Named) (n : Node) → Placed s n → ((named_at s p t n).code ≡ 0) ↔ (meets_named t (value_of s n) ≡ true)
+  named_none : (p : ℕ) (t : Named) (n : Node) → Placed s n → (named_at s p t n ≡ nothing) ↔ (meets_named t (value_of s n) ≡ true)
   named_none p JSON n h = (λ _. refl, λ _. refl)
   named_none p Schema n h = unless_none _ (is_some (definition_of (value_of s n))) refl (place_of n) p
   named_none p Float n h = unless_none _ _ (number_number n) (place_of n) p
@@ -139,26 +139,26 @@ module _ (s : List ℕ) where
 
   -- the value's kind is judged, and what is in it
   array_none : (P : Values → Type 0) (p : ℕ) (d : Located) (v : Nodes → List Visit)
-      → ((ns : Nodes) → PlacedAll s ns → AreJson (values_of s ns) → ((first_mismatch s (v ns)).code ≡ 0) ↔ P (values_of s ns))
-      → (n : Node) → Placed s n → IsJson (value_of s n) → ((first_mismatch s (value-by (array_at p d) n ∷ in_array n v)).code ≡ 0) ↔ IfArray P (value_of s n)
-  array_none P p d v h (scalar k f e) l i = (λ z. absurd (omega arith), λ x. absurd (scalar_array P k f e x))
+      → ((ns : Nodes) → PlacedAll s ns → AreJson (values_of s ns) → (first_mismatch s (v ns) ≡ nothing) ↔ P (values_of s ns))
+      → (n : Node) → Placed s n → IsJson (value_of s n) → (first_mismatch s (value-by (array_at p d) n ∷ in_array n v) ≡ nothing) ↔ IfArray P (value_of s n)
+  array_none P p d v h (scalar k f e) l i = (λ z. never (cc), λ x. absurd (scalar_array P k f e x))
   array_none P p d v h (array f e ns) l i = h ns l.2 i
-  array_none P p d v h (object f e ms) l i = (λ z. absurd (omega arith), λ x. absurd x)
+  array_none P p d v h (object f e ms) l i = (λ z. never (cc), λ x. absurd x)
 
   object_none : (P : ValueMembers → Type 0) (p : ℕ) (v : Members → List Visit)
-      → ((ms : Members) → PlacedMembers s ms → AreMembers (members_of s ms) → ((first_mismatch s (v ms)).code ≡ 0) ↔ P (members_of s ms))
+      → ((ms : Members) → PlacedMembers s ms → AreMembers (members_of s ms) → (first_mismatch s (v ms) ≡ nothing) ↔ P (members_of s ms))
       → (n : Node) → Placed s n → IsJson (value_of s n)
-      → ((or_else (unless (is_object n) (place_of n) p) (first_mismatch s (in_object n v))).code ≡ 0) ↔ IfObject P (value_of s n)
-  object_none P p v h (scalar k f e) l i = (λ z. absurd (omega arith), λ x. absurd (scalar_object P k f e x))
-  object_none P p v h (array f e ns) l i = (λ z. absurd (omega arith), λ x. absurd x)
+      → (or_else (unless (is_object n) (place_of n) p) (first_mismatch s (in_object n v)) ≡ nothing) ↔ IfObject P (value_of s n)
+  object_none P p v h (scalar k f e) l i = (λ z. never (cc), λ x. absurd (scalar_object P k f e x))
+  object_none P p v h (array f e ns) l i = (λ z. never (cc), λ x. absurd x)
   object_none P p v h (object f e ms) l i = h ms l.2 i
 
   -- none of what v judges fails exactly where the value has the property
   abbrev Judge : (Node → List Visit) → (Value → Type 0) → Type 0
-  Judge v P = (n : Node) → Placed s n → IsJson (value_of s n) → ((first_mismatch s (v n)).code ≡ 0) ↔ P (value_of s n)
+  Judge v P = (n : Node) → Placed s n → IsJson (value_of s n) → (first_mismatch s (v n) ≡ nothing) ↔ P (value_of s n)
 
   elements_none : (P : Value → Type 0) (v : Node → List Visit) → Judge v P → (ns : Nodes) → PlacedAll s ns → AreJson (values_of s ns)
-      → ((first_mismatch s (each_element v ns)).code ≡ 0) ↔ ((w : Value) → Among w (values_of s ns) → P w)
+      → (first_mismatch s (each_element v ns) ≡ nothing) ↔ ((w : Value) → Among w (values_of s ns) → P w)
   elements_none P v h no_Node l i = (λ _ w x. absurd x, λ _. refl)
   elements_none P v h (more n ns) l i =
       let o = append_none s (v n) (each_element v ns) in
@@ -169,7 +169,7 @@ module _ (s : List ℕ) where
       )
 
   members_none : (P : Value → Type 0) (v : Node → List Visit) → Judge v P → (ms : Members) → PlacedMembers s ms → AreMembers (members_of s ms)
-      → ((first_mismatch s (each_member v ms)).code ≡ 0) ↔ ((k : List ℕ) (w : Value) → Under k w (members_of s ms) → P w)
+      → (first_mismatch s (each_member v ms) ≡ nothing) ↔ ((k : List ℕ) (w : Value) → Under k w (members_of s ms) → P w)
   members_none P v h no_member l i = (λ _ k w x. absurd x, λ _. refl)
   members_none P v h (member f e n ms) l i =
       let o = append_none s (v n) (each_member v ms) in
@@ -183,19 +183,19 @@ module _ (s : List ℕ) where
 
   -- what stands under the name of an optional field, if anything does
   optional_none : (P : Value → Type 0) (v : Node → List Visit) → Judge v P → (k : List ℕ) (ms : Members) → PlacedMembers s ms → AreMembers (members_of s ms)
-      → (o : Option Node) → Looked s k ms o → ((first_mismatch s (at_name o [] v)).code ≡ 0) ↔ ((w : Value) → Under k w (members_of s ms) → P w)
-  optional_none P v h k ms l i none x = (λ _ w u. absurd (not_under k w (members_of s ms) x u), λ _. refl)
-  optional_none P v h k ms l i (some m) x =
+      → (o : Option Node) → Looked s k ms o → (first_mismatch s (at_name o [] v) ≡ nothing) ↔ ((w : Value) → Under k w (members_of s ms) → P w)
+  optional_none P v h k ms l i None x = (λ _ w u. absurd (not_under k w (members_of s ms) x u), λ _. refl)
+  optional_none P v h k ms l i (Some m) x =
       let a = h m (x.placed l) (x.json i) in
       (λ z w u. rw (x.only i w u) (a.0 z), λ f. a.1 (f (value_of s m) x.under))
 
   -- of a required one something must
   required_none : (P : Value → Type 0) (v : Node → List Visit) → Judge v P → (k : List ℕ) (ms : Members) → PlacedMembers s ms → AreMembers (members_of s ms)
       → (b q : ℕ) (o : Option Node) → Looked s k ms o
-      → ((first_mismatch s (at_name o (missing b q) v)).code ≡ 0) ↔ ((has_name k (members_of s ms) ≡ true) × ((w : Value) → Under k w (members_of s ms) → P w))
-  required_none P v h k ms l i b q none x = (λ z. absurd (omega arith), λ f. clash _ f.0 x)
-  required_none P v h k ms l i b q (some m) x =
-      let a = optional_none P v h k ms l i (some m) x in
+      → (first_mismatch s (at_name o (missing b q) v) ≡ nothing) ↔ ((has_name k (members_of s ms) ≡ true) × ((w : Value) → Under k w (members_of s ms) → P w))
+  required_none P v h k ms l i b q None x = (λ z. never (cc), λ f. clash _ f.0 x)
+  required_none P v h k ms l i b q (Some m) x =
+      let a = optional_none P v h k ms l i (Some m) x in
       (λ z. (x.has, a.0 z), λ f. a.1 f.1)
 
   mutual
@@ -213,7 +213,7 @@ module _ (s : List ℕ) where
         n l i
 
     pub all_required : (b : ℕ) (fs : LocatedFields) (ms : Members) → PlacedMembers s ms → AreMembers (members_of s ms)
-        → ((first_mismatch s (field_visits s (missing b) fs ms)).code ≡ 0)
+        → (first_mismatch s (field_visits s (missing b) fs ms) ≡ nothing)
         ↔ (HasNames (bare_fields fs) (members_of s ms) × FieldsMeet (bare_fields fs) (members_of s ms))
     all_required b no_field ms l i = (λ _. (tt, tt), λ _. refl)
     all_required b (field q k d fs) ms l i =
@@ -225,7 +225,7 @@ module _ (s : List ℕ) where
         )
 
     pub all_optional : (fs : LocatedFields) (ms : Members) → PlacedMembers s ms → AreMembers (members_of s ms)
-        → ((first_mismatch s (field_visits s skipped fs ms)).code ≡ 0) ↔ FieldsMeet (bare_fields fs) (members_of s ms)
+        → (first_mismatch s (field_visits s skipped fs ms) ≡ nothing) ↔ FieldsMeet (bare_fields fs) (members_of s ms)
     all_optional no_field ms l i = (λ _. tt, λ _. refl)
     all_optional (field q k d fs) ms l i =
         let o = append_none s (at_name (lookup s k ms) (skipped q) (λ m. visits s d m)) (field_visits s skipped fs ms) in
@@ -237,7 +237,7 @@ module _ (s : List ℕ) where
 
   module _ (d : Located) (n : Node) (l : Placed s n) (i : IsJson (value_of s n)) where
     pub meets_nothing : Meets (bare d) (value_of s n) → mismatch_at s d n ≡ nothing
-    meets_nothing h = mismatch_code s d n ((meets_none d n l i).1 h)
+    meets_nothing h = (meets_none d n l i).1 h
 
-    pub nothing_meets : (mismatch_at s d n).code ≡ 0 → Meets (bare d) (value_of s n)
+    pub nothing_meets : mismatch_at s d n ≡ nothing → Meets (bare d) (value_of s n)
     nothing_meets z = (meets_none d n l i).0 z

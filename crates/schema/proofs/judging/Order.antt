@@ -1,16 +1,15 @@
 -- The order of judging, and why a value does not meet a definition (01, "First misfit").
 use Prim.Native.Nat.{ℕ}
-use mathlib.Core.Path.{◌≡◌, refl, sym, ap, ◌∙◌}
+use mathlib.Core.Path.{◌≡◌, refl, ◌∙◌}
 use mathlib.Core.Logic.{inl, inr}
 use mathlib.Core.Bool.{Bool, true, false}
-use mathlib.Core.Option.{some}
 use mathlib.Core.List.{List}
-use native.Mathlib.Omega.{arith}
+use Rattle.std.specs.Prelude.{Some}
 use Rattle.model.specs.Value.{Value, Values, Members as ValueMembers, Among, Under, has_name}
 use Rattle.model.specs.Definition.{Named, JSON, Schema, Float, Integer, String, Boolean, DateTime, definition_of}
 use Rattle.model.specs.Date.{is_date}
 use Rattle.model.specs.Meeting.{is_some, if_string, IfArray, IfObject, meets_named, HasNames, Meets, FieldsMeet}
-use Rattle.model.proofs.Basics.{clash}
+use Rattle.model.proofs.Basics.{never, clash}
 use Rattle.tokens.specs.declared.tokens.Kind.{Kind}
 use Rattle.tokens.specs.declared.tokens.Kind.TheVariants.{Null, False, True, Whole, Fractional, Quoted}
 use Rattle.syntax.specs.Tree.{Node, scalar, array, object, Nodes, none as no_Node, more, Members, no_member, member, place_of}
@@ -21,6 +20,7 @@ use Rattle.definitions.specs.Definitions.{Located, named-at, array_at, map_at, o
 use Rattle.schema.specs.Judging.{mismatch, is_whole, is_number, is_string, is_boolean, if_scalar, is_array, is_object}
 use Rattle.rows.specs.Finding.{lookup}
 use Rattle.schema.specs.declared.judging.Mismatch.{Mismatch}
+use Rattle.schema.specs.declared.judging.MismatchCode.TheVariants.{WrongKind, MissingName, NoDate}
 use Rattle.definitions.proofs.Facts.{first_byte}
 use Rattle.schema.proofs.judging.Looking.{lookup_found}
 use Rattle.schema.proofs.judging.Meeting.{whole_integer, number_number, string_string, boolean_boolean, scalar_array, scalar_object}
@@ -75,12 +75,12 @@ pub data Judges (s : List ℕ) : Located → Node → Located → Node → Type 
   -- "names of "required" in schema order"
   required : {p f e : ℕ} {r o : LocatedFields} {d d₂ : Located} {ms : Members} {x n₂ : Node}
       (before : LocatedFields) (q : ℕ) (k : List ℕ) (after : LocatedFields)
-      → r ≡ join_fields before (field q k d after) → FieldsFound s before ms → lookup s k ms ≡ some x
+      → r ≡ join_fields before (field q k d after) → FieldsFound s before ms → lookup s k ms ≡ Some x
       → Judges s d x d₂ n₂ → Judges s (object-at p r o) (object f e ms) d₂ n₂
   -- "then those of "optional" that are present, in schema order"
   optional : {p f e : ℕ} {r o : LocatedFields} {d d₂ : Located} {ms : Members} {x n₂ : Node}
       (before : LocatedFields) (q : ℕ) (k : List ℕ) (after : LocatedFields)
-      → FieldsFound s r ms → o ≡ join_fields before (field q k d after) → FieldsMeetAt s before ms → lookup s k ms ≡ some x
+      → FieldsFound s r ms → o ≡ join_fields before (field q k d after) → FieldsMeetAt s before ms → lookup s k ms ≡ Some x
       → Judges s d x d₂ n₂ → Judges s (object-at p r o) (object f e ms) d₂ n₂
 
 -- ---- why a value does not meet a definition
@@ -121,7 +121,7 @@ pub record Lacks (s : List ℕ) (d : Located) (n : Node) (q : ℕ) : Type 0 wher
   pub lacks : has_name name (members_of s members) ≡ false
 
 -- a string that is no date
-pub record NoDate (s : List ℕ) (d : Located) (n : Node) : Type 0 where
+pub record Undated (s : List ℕ) (d : Located) (n : Node) : Type 0 where
   pub place : ℕ
   pub first : ℕ
   pub last : ℕ
@@ -132,9 +132,9 @@ pub record NoDate (s : List ℕ) (d : Located) (n : Node) : Type 0 where
 -- "20 wrong kind of value: first byte, document; definition's first byte, schema"; "21 required name missing: the object's brace; opening
 -- quote of the name in the schema"; "22 string is no date: its opening quote; definition's first byte"
 pub data Fails (s : List ℕ) (d : Located) (n : Node) (m : Mismatch) : Type 0 where
-  wrong_kind : of_kind s d n ≡ false → m ≡ mismatch 20 (place_of n) (first_byte d) → Fails s d n m
-  name_missing : (q : ℕ) → Lacks s d n q → m ≡ mismatch 21 (place_of n) q → Fails s d n m
-  no_date : NoDate s d n → m ≡ mismatch 22 (place_of n) (first_byte d) → Fails s d n m
+  wrong_kind : of_kind s d n ≡ false → m ≡ mismatch WrongKind (place_of n) (first_byte d) → Fails s d n m
+  name_missing : (q : ℕ) → Lacks s d n q → m ≡ mismatch MissingName (place_of n) q → Fails s d n m
+  no_date : Undated s d n → m ≡ mismatch NoDate (place_of n) (first_byte d) → Fails s d n m
 
 module _ (s : List ℕ) where
   -- ---- a value that fails a definition does not meet it
@@ -201,17 +201,17 @@ module _ (s : List ℕ) where
   fails_place d n m (name_missing q w e) = rw e
   fails_place d n m (no_date w e) = rw e
 
-  -- 20 and 22: the definition's first byte
-  pub fails_other : (d : Located) (n : Node) (m : Mismatch) → Fails s d n m → (m.code ≡ 21 → ⊥) → m.other ≡ first_byte d
+  -- a wrong kind and no date: the definition's first byte
+  pub fails_other : (d : Located) (n : Node) (m : Mismatch) → Fails s d n m → (m.code ≡ MissingName → ⊥) → m.other ≡ first_byte d
   fails_other d n m (wrong_kind k e) h = rw e
   fails_other d n m (name_missing q w e) h = absurd (h (rw e))
   fails_other d n m (no_date w e) h = rw e
 
-  -- 21: the opening quote of a required name that the value lacks
-  pub fails_lacks : (d : Located) (n : Node) (m : Mismatch) → Fails s d n m → m.code ≡ 21 → Lacks s d n m.other
-  fails_lacks d n m (wrong_kind k e) h = absurd (let z : ◌≡◌ {A = ℕ} 20 21 = sym (ap (λ (x : Mismatch). x.code) e) ∙ h in omega arith)
+  -- a missing name: the opening quote of a required name that the value lacks
+  pub fails_lacks : (d : Located) (n : Node) (m : Mismatch) → Fails s d n m → m.code ≡ MissingName → Lacks s d n m.other
+  fails_lacks d n m (wrong_kind k e) h = let z : WrongKind ≡ MissingName = rw e at h in never (cc)
   fails_lacks d n m (name_missing q w e) h = rw e w
-  fails_lacks d n m (no_date w e) h = absurd (let z : ◌≡◌ {A = ℕ} 22 21 = sym (ap (λ (x : Mismatch). x.code) e) ∙ h in omega arith)
+  fails_lacks d n m (no_date w e) h = let z : NoDate ≡ MissingName = rw e at h in never (cc)
 
   -- ---- what is judged on the way
 

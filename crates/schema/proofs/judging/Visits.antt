@@ -3,24 +3,21 @@ use Prim.Native.Nat.{ℕ}
 use mathlib.Core.Path.{◌≡◌, refl, sym, ap, ◌∙◌}
 use mathlib.Core.Logic.{◌↔◌}
 use mathlib.Core.List.{List, [], ◌∷◌, ◌++◌, append_assoc}
-use lib.Dec.{eqb}
-use borrow.Author.Tests.{eqb-true, eqb-false}
-use Rattle.model.proofs.Basics.{both}
+use Rattle.std.specs.Prelude.{Ok, Err}
+use Rattle.model.proofs.Basics.{never}
 use Rattle.syntax.specs.Tree.{Node}
 use Rattle.definitions.specs.Definitions.{Located, named-at, array_at, map_at, object-at}
-use Rattle.schema.specs.Judging.{or_else, Visit, value-by, mismatch_of, visits, first_mismatch}
+use Rattle.schema.specs.Judging.{Judgement, nothing, or_else, Visit, value-by, mismatch_of, visits, first_mismatch}
 use Rattle.schema.specs.Dates.{visit_moment, moments}
-use Rattle.schema.specs.declared.judging.Mismatch.{Mismatch}
 
-or_assoc : (a b c : Mismatch) → or_else a (or_else b c) ≡ or_else (or_else a b) c
-or_assoc a b c = both (λ (m : Mismatch). m ≡ or_else (or_else a b) c) (eqb a.code 0) (λ t. rw t) (λ t. rw (t, t))
+or_assoc : (a b c : Judgement) → or_else a (or_else b c) ≡ or_else (or_else a b) c
+or_assoc (Ok u) b c = refl
+or_assoc (Err m) b c = refl
 
 -- there is none exactly where both have none
-pub or_none : (a b : Mismatch) → ((or_else a b).code ≡ 0) ↔ ((a.code ≡ 0) × (b.code ≡ 0))
-or_none a b =
-    both (λ (m : Mismatch). (m.code ≡ 0) ↔ ((a.code ≡ 0) × (b.code ≡ 0))) (eqb a.code 0)
-    (λ t. (λ e. (eqb-true a.code 0 t, e), λ h. h.1))
-    (λ t. (λ e. absurd (eqb-false a.code 0 t e), λ h. absurd (eqb-false a.code 0 t h.0)))
+pub or_none : (a b : Judgement) → (or_else a b ≡ nothing) ↔ ((a ≡ nothing) × (b ≡ nothing))
+or_none (Ok u) b = (λ e. (refl, e), λ h. h.1)
+or_none (Err m) b = (λ e. never (cc), λ h. h.0)
 
 module _ (s : List ℕ) where
   pub first_append : (xs ys : List Visit) → first_mismatch s (xs ++ ys) ≡ or_else (first_mismatch s xs) (first_mismatch s ys)
@@ -29,7 +26,7 @@ module _ (s : List ℕ) where
       ap (or_else (mismatch_of s v)) (first_append xs ys) ∙ or_assoc (mismatch_of s v) (first_mismatch s xs) (first_mismatch s ys)
 
   pub append_none : (xs ys : List Visit)
-      → ((first_mismatch s (xs ++ ys)).code ≡ 0) ↔ (((first_mismatch s xs).code ≡ 0) × ((first_mismatch s ys).code ≡ 0))
+      → (first_mismatch s (xs ++ ys) ≡ nothing) ↔ ((first_mismatch s xs ≡ nothing) × (first_mismatch s ys ≡ nothing))
   append_none xs ys = rw (first_append xs ys) (or_none (first_mismatch s xs) (first_mismatch s ys))
 
   pub moments_append : (xs ys : List Visit) → moments s (xs ++ ys) ≡ moments s xs ++ moments s ys
@@ -49,5 +46,5 @@ module _ (s : List ℕ) where
   itself_first (object-at p r o) n = refl
 
   -- one alone
-  pub one_none : (v : Visit) {A : Type 0} → ((mismatch_of s v).code ≡ 0) ↔ A → ((first_mismatch s (v ∷ [])).code ≡ 0) ↔ A
+  pub one_none : (v : Visit) {A : Type 0} → (mismatch_of s v ≡ nothing) ↔ A → (first_mismatch s (v ∷ []) ≡ nothing) ↔ A
   one_none v h = let o = or_none (mismatch_of s v) (first_mismatch s []) in (λ z. h.0 (o.0 z).0, λ a. o.1 (h.1 a, refl))

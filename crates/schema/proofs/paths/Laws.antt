@@ -2,9 +2,9 @@
 use Prim.Native.Nat.{ℕ, zero, suc, ◌+◌, ◌-◌, ◌*◌, ◌≤◌, ◌<◌}
 use mathlib.Core.Path.{◌≡◌, refl, sym, ap, ◌∙◌}
 use mathlib.Core.Bool.{Bool, true, false, cond, not, and-false}
-use mathlib.Core.Option.{Option, none, some}
 use mathlib.Core.List.{List, [], ◌∷◌, ◌++◌, append_assoc}
 use native.Mathlib.Omega.{arith}
+use Rattle.std.specs.Prelude.{Option, Some, None}
 use lib.ListN.{length, get_or, drop, set, length-append}
 use lib.Seq.{drop-cons, set_at, length_front, length-take-le}
 use lib.Dec.{eqb}
@@ -15,14 +15,14 @@ use Rattle.syntax.specs.Rows.{row_words, size, sizes, sizes_members}
 use Rattle.syntax.specs.Holding.{word, Row, Holds, HoldsAll, HoldsMembers, Nested, NestedAll, NestedMembers}
 use Rattle.syntax.proofs.Facts.{kind_small, holds_same, size_pos, Shallow, ShallowAll, ShallowMembers}
 use Rattle.schema.specs.Paths.{Path, paths, paths_all, paths_members, path_to, list_after, Leads, top, up}
-use Rattle.schema.specs.Climbing.{begins_at, first_at, or_top, ClimbReady, Climbed, PathReady, PathWritten}
+use Rattle.schema.specs.Climbing.{begins_at, first_at, ClimbReady, Climbed, PathReady, PathWritten}
 
 -- ---- the first row that begins at a place
 
 module _ (t : List ℕ) (x : ℕ) where
   abbrev or_else : Option ℕ → Option ℕ → Option ℕ
-  or_else none b = b
-  or_else (some r) b = some r
+  or_else None b = b
+  or_else (Some r) b = Some r
 
   first_split : (r j k : ℕ) → first_at t x r (j + k) ≡ or_else (first_at t x r j) (first_at t x (r + j) k)
   first_split r zero k =
@@ -32,14 +32,14 @@ module _ (t : List ℕ) (x : ℕ) where
   first_split r (suc j) k =
       let e : suc j + k ≡ suc (j + k) = omega arith in
       let f : r + suc j ≡ r + 1 + j = omega arith in
-      rw (e, f) (both (λ (o : Option ℕ). o ≡ or_else (cond (begins_at t x r) (some r) (first_at t x (r + 1) j)) (first_at t x (r + 1 + j) k)) (begins_at t x r)
+      rw (e, f) (both (λ (o : Option ℕ). o ≡ or_else (cond (begins_at t x r) (Some r) (first_at t x (r + 1) j)) (first_at t x (r + 1 + j) k)) (begins_at t x r)
       (λ y. rw y) (λ n. rw n (first_split (r + 1) j k)))
 
   -- the next row begins there, or not
   abbrev left : (row rows : ℕ) → row < rows → rows - row ≡ suc (rows - (row + 1))
   left row rows l = omega arith
 
-  pub first_here : {row rows : ℕ} → row < rows → (word t row 0 ≡ 9 → ⊥) → word t row 1 ≡ x → first_at t x row (rows - row) ≡ some row
+  pub first_here : {row rows : ℕ} → row < rows → (word t row 0 ≡ 9 → ⊥) → word t row 1 ≡ x → first_at t x row (rows - row) ≡ Some row
   first_here {row} {rows} l n e = rw (left row rows l, ne_eqb (word t row 0) 9 n, eq-eqb (word t row 1) x e)
 
   pub first_name : {row rows : ℕ} → row < rows → word t row 0 ≡ 9 → first_at t x row (rows - row) ≡ first_at t x (row + 1) (rows - (row + 1))
@@ -48,10 +48,10 @@ module _ (t : List ℕ) (x : ℕ) where
   pub first_other : {row rows : ℕ} → row < rows → (word t row 1 ≡ x → ⊥) → first_at t x row (rows - row) ≡ first_at t x (row + 1) (rows - (row + 1))
   first_other {row} {rows} l n = rw (left row rows l, ne_eqb (word t row 1) x n, and-false (not (eqb (word t row 0) 9)))
 
-  pub first_below : (r k : ℕ) {q : ℕ} → first_at t x r k ≡ some q → q < r + k
+  pub first_below : (r k : ℕ) {q : ℕ} → first_at t x r k ≡ Some q → q < r + k
   first_below r zero e = never (cc)
   first_below r (suc k) {q} e =
-      both (λ (o : Option ℕ). o ≡ some q → q < r + suc k) (begins_at t x r) (λ _ f. let z : r ≡ q = cc in omega arith)
+      both (λ (o : Option ℕ). o ≡ Some q → q < r + suc k) (begins_at t x r) (λ _ f. let z : r ≡ q = cc in omega arith)
       (λ _ f. omega (arith, first_below (r + 1) k f)) e
 
   -- a value's row, and a name's
@@ -63,8 +63,8 @@ module _ (t : List ℕ) (x : ℕ) where
 
   -- the row of a path
   abbrev head_of : List ℕ → Option ℕ
-  head_of [] = none
-  head_of (r ∷ rs) = some r
+  head_of [] = None
+  head_of (r ∷ rs) = Some r
 
   to_append : (ps qs : List Path) → head_of (path_to x (ps ++ qs)) ≡ or_else (head_of (path_to x ps)) (head_of (path_to x qs))
   to_append [] qs = refl
@@ -73,7 +73,7 @@ module _ (t : List ℕ) (x : ℕ) where
       (eqb p.place x) (λ y. rw y) (λ n. rw n (to_append ps qs))
 
   -- a value, and what is found in it
-  step : (b : Bool) (r : ℕ) {o : Option ℕ} (around rs : List ℕ) → o ≡ head_of rs → cond b (some r) o ≡ head_of (cond b (r ∷ around) rs)
+  step : (b : Bool) (r : ℕ) {o : Option ℕ} (around rs : List ℕ) → o ≡ head_of rs → cond b (Some r) o ≡ head_of (cond b (r ∷ around) rs)
   step true r around rs e = refl
   step false r around rs e = e
 
@@ -297,11 +297,15 @@ module _ {t : List ℕ} {x : ℕ} {list : List ℕ} (h : PathReady t x list) whe
       rows_said (array f e ns) g = (g.0.subtree, g.0.room)
       rows_said (object f e ms) g = (g.0.subtree, g.0.room)
 
-  first_found : first_at t x 0 (size tree) ≡ some found.0.row
-  first_found = first_path t x [] 0 tree h.holds ∙ ap (head_of t x) found.3
+  pub first_found : {rows : ℕ} → rows ≡ word t 0 4 → first_at t x 0 rows ≡ Some found.0.row
+  first_found e = rw (e, path_rows.0) (first_path t x [] 0 tree h.holds ∙ ap (head_of t x) found.3)
 
-  pub found_row : {r : ℕ} → r ≡ or_top (first_at t x 0 (size tree)) → (r ≡ found.0.row) × (r < size tree)
-  found_row e = let q = e ∙ ap or_top first_found in (q, omega (arith, first_below t x 0 (size tree) first_found))
+  -- the row that was found
+  pub found_row : {rows : ℕ} → rows ≡ word t 0 4 → {r : ℕ} → first_at t x 0 rows ≡ Some r → (r ≡ found.0.row) × (r < size tree)
+  found_row {rows} e {r} q =
+      let f = first_found e in
+      let z : r ≡ found.0.row = cc in
+      (z, omega (arith, e, path_rows.0, first_below t x 0 rows q))
 
   pub path_climbs : {r : ℕ} → (r ≡ found.0.row) × (r < size tree) → ClimbReady t r list
   path_climbs {r} e = record {

@@ -1,12 +1,13 @@
 -- The value at the place of a mismatch is one of the document's, so that there is a path to it, which has at most 33 rows (02, L11).
 use Prim.Native.Nat.{ℕ, ◌+◌, ◌≤◌, ◌<◌}
 use mathlib.Core.Path.{◌≡◌, refl, sym, ap, ◌∙◌}
-use mathlib.Core.Option.{Option, some}
+use mathlib.Core.Bool.{true}
 use mathlib.Core.List.{List, [], ◌∷◌, ◌++◌}
 use native.Mathlib.Omega.{arith}
+use Rattle.std.specs.Prelude.{Option, Some, Ok, Err}
 use lib.ListN.{length}
 use lib.Dec.{eqb, leb}
-use borrow.Author.Tests.{eq-eqb, eqb-false, leb-true, le-leb, lt-leb}
+use borrow.Author.Tests.{eq-eqb, leb-true, le-leb, lt-leb}
 use Rattle.model.specs.Text.{same}
 use Rattle.model.proofs.Basics.{both, by_test, never}
 use Rattle.tokens.specs.Parse.{Parse, refused, parsed}
@@ -22,11 +23,12 @@ use Rattle.definitions.specs.Definitions.{Located}
 use Rattle.definitions.specs.Accepting.{Accepted, not_accepted, accepted, accept}
 use Rattle.definitions.proofs.Facts.{Way, accept_way}
 use Rattle.rows.specs.Finding.{lookup}
-use Rattle.schema.specs.Judging.{mismatch_at}
+use Rattle.schema.specs.Judging.{Judgement, mismatch_at}
 use Rattle.schema.specs.Checking.{read_document, mismatch_answer, judged_as, check_answer, check_table}
 use Rattle.schema.specs.Paths.{Path, paths, paths_all, paths_members, path_to, path_of, check_path, list_after, path_words}
+use Rattle.schema.specs.declared.judging.Mismatch.{Mismatch}
 use Rattle.schema.specs.Climbing.{PathReady, PathWritten}
-use Rattle.schema.proofs.judging.Codes.{mismatch_codes}
+use Rattle.schema.proofs.judging.Codes.{number_bounds}
 use Rattle.schema.proofs.judging.First.{mismatch_real}
 use Rattle.schema.proofs.judging.Order.{join_nodes, join_members, Judges, itself, element, value, required, optional}
 use Rattle.schema.proofs.paths.Laws.{Short, all_short, picked}
@@ -64,12 +66,12 @@ module _ (x : ℕ) where
       none_member around (r + 1 + size m) before f e n after
       (none_right (paths around (r + 1) m) (paths_members around (r + 1 + size m) (join_members before (member f e n after))) h)
 
-  none_named : (s k around : List ℕ) (r : ℕ) (ms : Members) (n : Node) → lookup s k ms ≡ some n → NoPath (paths_members around r ms)
+  none_named : (s k around : List ℕ) (r : ℕ) (ms : Members) (n : Node) → lookup s k ms ≡ Some n → NoPath (paths_members around r ms)
       → (q : ℕ) × NoPath (paths around q n)
   none_named s k around r no_member n e h = never (cc)
   none_named s k around r (member f g m ms) n e h =
       let rest = paths_members around (r + 1 + size m) ms in
-      both (λ (o : Option Node). o ≡ some n → (q : ℕ) × NoPath (paths around q n)) (same k (name_of s f g))
+      both (λ (o : Option Node). o ≡ Some n → (q : ℕ) × NoPath (paths around q n)) (same k (name_of s f g))
       (λ _ z. let y : m ≡ n = cc in (r + 1, rw y at (none_left (paths around (r + 1) m) rest h)))
       (λ _ z. none_named s k around (r + 1 + size m) ms n z (none_right (paths around (r + 1) m) rest h)) e
 
@@ -110,8 +112,9 @@ pub record HasMismatch (w₁ w₂ : ℕ) (s₁ s₂ : List ℕ) : Type 0 where
   pub definition : Located
   pub accepts : accept 2 w₂ s₂ ≡ accepted definition
   pub code : (20 ≤ (check_answer w₁ w₂ s₁ s₂).code) × ((check_answer w₁ w₂ s₁ s₂).code ≤ 22)
-  pub place : (check_answer w₁ w₂ s₁ s₂).place ≡ (mismatch_at s₁ definition tree).place
-  pub fails : (mismatch_at s₁ definition tree).code ≡ 0 → ⊥
+  pub mismatch : Mismatch
+  pub is : mismatch_at s₁ definition tree ≡ Err mismatch
+  pub place : (check_answer w₁ w₂ s₁ s₂).place ≡ mismatch.place
 
 module _ (w₁ w₂ : ℕ) (s₁ s₂ : List ℕ) where
   abbrev code : Answer → ℕ
@@ -129,24 +132,24 @@ module _ (w₁ w₂ : ℕ) (s₁ s₂ : List ℕ) where
     -- a document that was read
     of_read : (d : Located) → accept 2 w₂ s₂ ≡ accepted d → (n : Node) (e : ℕ) → read_document s₁ ≡ parsed n e → HasMismatch w₁ w₂ s₁ s₂
     of_read d q n e r =
-        let m = mismatch_at s₁ d n in
         let a : check_answer w₁ w₂ s₁ s₂ ≡ judged_as d w₁ s₁ (parsed n e) = judged-as q ∙ ap (judged_as d w₁ s₁) r in
-        by_test (leb (size n) (rows_in w₁))
-        (λ y. let b : check_answer w₁ w₂ s₁ s₂ ≡ mismatch_answer m = a ∙ rw y in
-        by_test (eqb m.code 0) (λ z. let c : check_answer w₁ w₂ s₁ s₂ ≡ answer 0 0 0 0 = b ∙ rw z in absurd (omega (arith, h, ap code c)))
-        (λ z. let c : check_answer w₁ w₂ s₁ s₂ ≡ answer m.code 1 m.place m.other = b ∙ rw z in
-        record {
+        by_test (leb (size n) (rows_in w₁)) (λ y. go y (mismatch_at s₁ d n) refl (a ∙ rw y))
+        (λ y. let b : check_answer w₁ w₂ s₁ s₂ ≡ answer 8 1 0 (size n) = a ∙ rw y in absurd (omega (arith, h, ap code b)))
+      where
+        go : leb (size n) (rows_in w₁) ≡ true → (m : Judgement) → mismatch_at s₁ d n ≡ m → check_answer w₁ w₂ s₁ s₂ ≡ mismatch_answer m → HasMismatch w₁ w₂ s₁ s₂
+        go y (Ok u) z b = absurd (omega (arith, h, ap code b))
+        go y (Err m) z b = record {
           tree = n;
           end = e;
           reads = r;
           room = leb-true _ _ y;
           definition = d;
           accepts = q;
-          code = (h, rw c (mismatch_codes s₁ d n (eqb-false m.code 0 z)).1);
-          place = ap (λ (a : Answer). a.place) c;
-          fails = eqb-false m.code 0 z;
-        }))
-        (λ y. let b : check_answer w₁ w₂ s₁ s₂ ≡ answer 8 1 0 (size n) = a ∙ rw y in absurd (omega (arith, h, ap code b)))
+          code = (h, rw b (number_bounds m.code).1);
+          mismatch = m;
+          is = z;
+          place = ap (λ (a : Answer). a.place) b;
+        }
 
     -- every other code is below 20
     pub has_mismatch : HasMismatch w₁ w₂ s₁ s₂
@@ -168,7 +171,7 @@ module _ {w₁ w₂ : ℕ} {s₁ s₂ : List ℕ} (h : HasMismatch w₁ w₂ s�
   mismatch_found e =
       let n = h.tree in
       let q = h.reads in
-      let r = mismatch_real s₁ h.definition n (read_placed _ _ s₁ n h.end q) (read_json _ _ s₁ n h.end q) h.fails in
+      let r = mismatch_real s₁ h.definition n (read_placed _ _ s₁ n h.end q) (read_json _ _ s₁ n h.end q) h.is in
       let p : place ≡ place_of r.judged_value = h.place ∙ r.place in
       reached r.judges [] 0 (rw p at e)
 

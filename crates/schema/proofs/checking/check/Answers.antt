@@ -1,92 +1,44 @@
--- `check` meets its contract: the list is short, there is no mismatch, or the path to it is written.
+-- `check` meets its contract: the list is short, a text is not read, there is no mismatch, or the path to it is written.
 use native.Mathlib.Omega.{arith}
-use Rattle.schema.proofs.checking.Path.{path_short, path_none, path_given, path_fits, path_found}
+use Rattle.schema.proofs.checking.Laws.{promised_short, promised_unread, TablesRead, tables_read, judgeable, promised_met, mismatch_ready, mismatch_fits, promised_mismatch}
 use Rattle.schema.proofs.checking.check.Goals as goal
+use Rattle.schema.proofs.checking.check.Goals.{In_default}
+
+-- both tables behind reading both texts
+tables : (c : In_default) → TablesRead c.args.document.now c.args.schema.now c.args.table1.now c.args.table2.now c.read_both.new.table1 c.read_both.new.table2
+tables c = tables_read _ _ _ _ c.read_both.ensures.answers c.in_default.is c.read_both.ensures.rows1 c.read_both.ensures.rows2
 
 pub returns-then-path-lt-PATH_WORDS : goal.returns-then-path-lt-PATH_WORDS
 returns-then-path-lt-PATH_WORDS c =
-    let w = path_short c.args.document.now c.args.schema.now c.args.table1.now c.args.table2.now c.args.path.now c.if-path-lt-PATH_WORDS.true
-    c.new.ensures in record {
-      answers = w.0;
-      rows1 = w.1.0;
-      rows2 = w.1.1.0;
-      meets = w.1.1.1.0;
-      dated = w.1.1.1.1.0;
-      spans = w.1.1.1.1.1.0;
-      paths = w.1.1.1.1.1.1.0;
-      steps = w.1.1.1.1.1.1.1;
-    }
+    promised_short c.args.document.now c.args.schema.now c.args.table1.now c.args.table2.now c.args.path.now c.if-path-lt-PATH_WORDS.true c.new.ensures
 
-pub returns-then-answer-lt20 : goal.returns-then-answer-lt20
-returns-then-answer-lt20 c =
-    let w = path_none c.args.document.now c.args.schema.now c.args.table1.now c.args.table2.now c.args.path.now c.if-path-lt-PATH_WORDS.false (
-      c.verdict-answer.ensures.answers,
-      (
-        c.verdict-answer.ensures.rows1,
-        (
-          c.verdict-answer.ensures.rows2,
-          (c.verdict-answer.ensures.meets, (c.verdict-answer.ensures.dated, c.verdict-answer.ensures.spans)),
-        ),
-      ),
-    ) c.if-answer-lt20.true in
-    record {
-      answers = w.0;
-      rows1 = w.1.0;
-      rows2 = w.1.1.0;
-      meets = w.1.1.1.0;
-      dated = w.1.1.1.1.0;
-      spans = w.1.1.1.1.1.0;
-      paths = w.1.1.1.1.1.1.0;
-      steps = w.1.1.1.1.1.1.1;
-    }
+pub returns-in-Err : goal.returns-in-Err
+returns-in-Err c =
+    promised_unread c.args.document.now c.args.schema.now c.args.table1.now c.args.table2.now c.args.path.now c.if-path-lt-PATH_WORDS.false
+    c.read_both.ensures.answers c.in-Err.is c.read_both.ensures.rows1 c.read_both.ensures.rows2
+
+pub judge-requires : goal.judge-requires
+judge-requires c = judgeable (tables (goal.at.judge-requires c).In_default)
+
+pub returns-in-Ok : goal.returns-in-Ok
+returns-in-Ok c =
+    promised_met (tables (goal.at.returns-in-Ok c).In_default) c.judge.ensures c.args.path.now c.if-path-lt-PATH_WORDS.false c.in-Ok.is
+    c.none-counted.ensures c.new-in-Ok.ensures c.numbers.ensures
 
 pub write_path-steps-requires : goal.write_path-steps-requires
 write_path-steps-requires c =
-    path_given c.args.document.now c.args.schema.now c.args.table1.now c.args.table2.now c.args.path.now c.if-path-lt-PATH_WORDS.false (
-      c.verdict-answer.ensures.answers,
-      (
-        c.verdict-answer.ensures.rows1,
-        (
-          c.verdict-answer.ensures.rows2,
-          (c.verdict-answer.ensures.meets, (c.verdict-answer.ensures.dated, c.verdict-answer.ensures.spans)),
-        ),
-      ),
-    ) c.if-answer-lt20.false
+    mismatch_ready (tables (goal.at.write_path-steps-requires c).In_default) c.judge.ensures c.args.path.now c.if-path-lt-PATH_WORDS.false
+    c.in-Err-judge.is
 
 pub overflow_cast-result : goal.overflow_cast-result
 overflow_cast-result c =
-    let f = path_fits c.args.document.now c.args.schema.now c.args.table1.now c.args.table2.now c.args.path.now c.if-path-lt-PATH_WORDS.false (
-      c.verdict-answer.ensures.answers,
-      (
-        c.verdict-answer.ensures.rows1,
-        (
-          c.verdict-answer.ensures.rows2,
-          (c.verdict-answer.ensures.meets, (c.verdict-answer.ensures.dated, c.verdict-answer.ensures.spans)),
-        ),
-      ),
+    omega (
+      arith,
+      mismatch_fits (tables (goal.at.overflow_cast-result c).In_default) c.judge.ensures c.args.path.now c.if-path-lt-PATH_WORDS.false c.in-Err-judge.is
+          c.write_path-steps.ensures,
     )
-    c.if-answer-lt20.false c.write_path-steps.ensures in
-    omega (arith, f)
 
-pub returns : goal.returns
-returns c =
-    let w = path_found c.args.document.now c.args.schema.now c.args.table1.now c.args.table2.now c.args.path.now c.if-path-lt-PATH_WORDS.false (
-      c.verdict-answer.ensures.answers,
-      (
-        c.verdict-answer.ensures.rows1,
-        (
-          c.verdict-answer.ensures.rows2,
-          (c.verdict-answer.ensures.meets, (c.verdict-answer.ensures.dated, c.verdict-answer.ensures.spans)),
-        ),
-      ),
-    )
-    c.if-answer-lt20.false c.write_path-steps.ensures in record {
-      answers = w.0;
-      rows1 = w.1.0;
-      rows2 = w.1.1.0;
-      meets = w.1.1.1.0;
-      dated = w.1.1.1.1.0;
-      spans = w.1.1.1.1.1.0;
-      paths = w.1.1.1.1.1.1.0;
-      steps = w.1.1.1.1.1.1.1;
-    }
+pub returns-in-Err-judge : goal.returns-in-Err-judge
+returns-in-Err-judge c =
+    promised_mismatch (tables (goal.at.returns-in-Err-judge c).In_default) c.judge.ensures c.args.path.now c.if-path-lt-PATH_WORDS.false c.in-Err-judge.is
+    c.write_path-steps.ensures (rw c.from.ensures at c.new-in-Err-judge.ensures)

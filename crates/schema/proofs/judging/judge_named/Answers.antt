@@ -1,107 +1,31 @@
--- `schema::judging::judge_named` meets its contract: `TypeNames` has a law for each way out.
-use Rattle.rows.proofs.Facts.{in_table, string_quoted, quotes_read}
-use Rattle.schema.proofs.judging.TypeNames.{NamedRead, named_date, named_defined, named_faulty, named_takes, named_refuses}
-use borrow.Enum.Refused.{opened}
+-- `judge_named` meets its contract: `TypeNames` has a law for each way out.
+use mathlib.Core.Path.{refl}
+use Rattle.rows.proofs.Facts.{in_table}
+use Rattle.schema.proofs.judging.TypeNames.{NamedRead, name_read, name_known, named_date, named_schema, named_kind}
 use Rattle.schema.proofs.judging.judge_named.Goals as goal
+use Rattle.schema.proofs.judging.judge_named.Goals.{After-unwrap}
+
+-- the type name that was read
+read : (c : After-unwrap) → NamedRead c.args.document.text.now c.args.schema.text.now c.args.document.table.now c.args.schema.table.now c.args.at c.args.by
+    c.row_at-value.result c.row_at-other.result c.unwrap.result
+read c = name_read c.requires c.row_at-value.ensures c.row_at-other.ensures c.type_at.ensures c.unwrap.ensures
 
 pub row_at-value-requires : goal.row_at-value-requires
-row_at-value-requires c = in_table c.requires.judgeable.document
+row_at-value-requires c = in_table c.requires.given.document
 
-pub row_at-definition-requires : goal.row_at-definition-requires
-row_at-definition-requires c = in_table c.requires.judgeable.schema
+pub row_at-other-requires : goal.row_at-other-requires
+row_at-other-requires c = in_table c.requires.given.schema
 
-pub between-requires : goal.between-requires
-between-requires c =
-    quotes_read c.row_at-definition.ensures (string_quoted c.requires.judgeable.schema c.requires.by_value)
-
-pub judge_date-requires : goal.judge_date-requires
-judge_date-requires c =
-    let read : NamedRead c.args.document.now c.args.schema.now c.args.rows1.now c.args.rows2.now c.args.at c.args.by c.row_at-value.result
-    c.row_at-definition.result c.named_type-name.result =
-    record {
-      given = c.requires.judgeable;
-      string = c.requires.by_value;
-      value = c.row_at-value.ensures;
-      reads = c.row_at-definition.ensures;
-      is = rw c.between.ensures at c.named_type-name.ensures;
-    } in
-    read.given.document
-
-pub define-requires : goal.define-requires
-define-requires c =
-    let read : NamedRead c.args.document.now c.args.schema.now c.args.rows1.now c.args.rows2.now c.args.at c.args.by c.row_at-value.result
-    c.row_at-definition.result c.named_type-name.result =
-    record {
-      given = c.requires.judgeable;
-      string = c.requires.by_value;
-      value = c.row_at-value.ensures;
-      reads = c.row_at-definition.ensures;
-      is = rw c.between.ensures at c.named_type-name.ensures;
-    } in
-    read.given.document
-
-pub returns-then-define-eq0 : goal.returns-then-define-eq0
-returns-then-define-eq0 c =
-    let read : NamedRead c.args.document.now c.args.schema.now c.args.rows1.now c.args.rows2.now c.args.at c.args.by c.row_at-value.result
-    c.row_at-definition.result c.named_type-name.result =
-    record {
-      given = c.requires.judgeable;
-      string = c.requires.by_value;
-      value = c.row_at-value.ensures;
-      reads = c.row_at-definition.ensures;
-      is = rw c.between.ensures at c.named_type-name.ensures;
-    } in
-    named_defined read c.in-Schema.is c.define.ensures c.if-define-eq0.true c.none.ensures
-
--- under a name that is judged by the value's kind
-pub returns-then-fits : goal.returns-then-fits
-returns-then-fits c =
-    let read : NamedRead c.args.document.now c.args.schema.now c.args.rows1.now c.args.rows2.now c.args.at c.args.by c.row_at-value.result
-    c.row_at-definition.result c.named_type-name.result =
-    record {
-      given = c.requires.judgeable;
-      string = c.requires.by_value;
-      value = c.row_at-value.ensures;
-      reads = c.row_at-definition.ensures;
-      is = rw c.between.ensures at c.named_type-name.ensures;
-    } in
-    named_takes read (opened c.in_default.in_default-own.keys3) c.takes-fits.ensures c.if-fits.true c.none-then-fits.ensures
+pub unwrap-requires : goal.unwrap-requires
+unwrap-requires c = rw (name_known c.requires c.type_at.ensures) refl
 
 pub returns-in-DateTime : goal.returns-in-DateTime
-returns-in-DateTime c =
-    let read : NamedRead c.args.document.now c.args.schema.now c.args.rows1.now c.args.rows2.now c.args.at c.args.by c.row_at-value.result
-    c.row_at-definition.result c.named_type-name.result =
-    record {
-      given = c.requires.judgeable;
-      string = c.requires.by_value;
-      value = c.row_at-value.ensures;
-      reads = c.row_at-definition.ensures;
-      is = rw c.between.ensures at c.named_type-name.ensures;
-    } in
-    named_date read c.in-DateTime.is c.judge_date.ensures
+returns-in-DateTime c = named_date (read (goal.at.returns-in-DateTime c).After-unwrap) c.in-DateTime.is c.judge_date.ensures
 
-pub returns-else-define-eq0 : goal.returns-else-define-eq0
-returns-else-define-eq0 c =
-    let read : NamedRead c.args.document.now c.args.schema.now c.args.rows1.now c.args.rows2.now c.args.at c.args.by c.row_at-value.result
-    c.row_at-definition.result c.named_type-name.result =
-    record {
-      given = c.requires.judgeable;
-      string = c.requires.by_value;
-      value = c.row_at-value.ensures;
-      reads = c.row_at-definition.ensures;
-      is = rw c.between.ensures at c.named_type-name.ensures;
-    } in
-    named_faulty read c.in-Schema.is c.define.ensures c.if-define-eq0.false c.at.ensures
+pub returns-in-Schema : goal.returns-in-Schema
+returns-in-Schema c = named_schema (read (goal.at.returns-in-Schema c).After-unwrap) c.in-Schema.is c.define.ensures (rw c.is_ok.ensures.value at c.unless.ensures)
 
-pub returns-else-fits : goal.returns-else-fits
-returns-else-fits c =
-    let read : NamedRead c.args.document.now c.args.schema.now c.args.rows1.now c.args.rows2.now c.args.at c.args.by c.row_at-value.result
-    c.row_at-definition.result c.named_type-name.result =
-    record {
-      given = c.requires.judgeable;
-      string = c.requires.by_value;
-      value = c.row_at-value.ensures;
-      reads = c.row_at-definition.ensures;
-      is = rw c.between.ensures at c.named_type-name.ensures;
-    } in
-    named_refuses read (opened c.in_default.in_default-own.keys3) c.takes-fits.ensures c.if-fits.false c.at-in_default.ensures
+pub returns-in_default : goal.returns-in_default
+returns-in_default c =
+    named_kind (read (goal.at.returns-in_default c).After-unwrap) c.in_default.not-Schema c.in_default.not-DateTime
+    (rw c.takes.ensures at c.unless-in_default.ensures)

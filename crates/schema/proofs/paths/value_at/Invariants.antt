@@ -1,12 +1,8 @@
--- `value_at` meets its contract. Invariant: the first row from here on is the first of all. Measure: how many rows are left.
+-- `value_at` meets its contract. Invariant: the first row from here on is the first of all.
 use mathlib.Core.Path.{◌≡◌}
-use Prim.Native.Nat.{◌≤◌, ◌-◌}
+use Prim.Native.Nat.{◌-◌}
 use Rattle.schema.specs.Climbing.{first_at}
 use Rattle.schema.proofs.paths.value_at.Given as goal
 
 abbrev pub invariant-loop-row : goal.invariant-loop-row
-invariant-loop-row l =
-    (l.row ≤ l.rows) × (first_at l.table l.place 0 l.rows ≡ first_at l.table l.place l.row (l.rows - l.row))
-
-abbrev pub decreases-loop-row : goal.decreases-loop-row
-decreases-loop-row l = l.rows - l.row
+invariant-loop-row l = first_at l.table l.place 0 l.rows ≡ first_at l.table l.place l.row (l.rows - l.row)

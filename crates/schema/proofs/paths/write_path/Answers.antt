@@ -1,10 +1,7 @@
 -- `write_path` meets its contract: the row is that of the value, and from there the sixth words lead up.
-use mathlib.Core.Path.{◌≡◌, ap, ◌∙◌}
-use Prim.Native.Nat.{ℕ, ◌<◌}
+use mathlib.Core.Path.{refl, sym, ◌∙◌}
 use native.Mathlib.Omega.{arith}
-use Rattle.syntax.specs.Rows.{size}
-use Rattle.schema.specs.Climbing.{first_at, or_top}
-use Rattle.schema.proofs.paths.Laws.{path_rows, found, found_row, path_climbs, path_written}
+use Rattle.schema.proofs.paths.Laws.{path_rows, first_found, found_row, path_climbs, path_written}
 use Rattle.schema.proofs.paths.write_path.Goals as goal
 
 pub word-rows-requires : goal.word-rows-requires
@@ -13,16 +10,11 @@ word-rows-requires c = (omega arith, omega (arith, path_rows c.requires))
 pub value_at-requires : goal.value_at-requires
 value_at-requires c = omega (arith, c.word-rows.ensures, path_rows c.requires)
 
+pub unwrap-requires : goal.unwrap-requires
+unwrap-requires c = rw (c.value_at.ensures ∙ first_found c.requires c.word-rows.ensures) refl
+
 pub climb-requires : goal.climb-requires
-climb-requires c =
-    let row : (c.value_at.result ≡ (found c.requires).0.row) × (c.value_at.result < size c.requires.tree) =
-    let e = c.word-rows.ensures ∙ (path_rows c.requires).0 in
-    found_row c.requires (c.value_at.ensures ∙ ap (λ (k : ℕ). or_top (first_at c.args.table.now c.args.place 0 k)) e) in
-    path_climbs c.requires row
+climb-requires c = path_climbs c.requires (found_row c.requires c.word-rows.ensures (sym c.value_at.ensures ∙ c.unwrap.ensures))
 
 pub returns : goal.returns
-returns c =
-    let row : (c.value_at.result ≡ (found c.requires).0.row) × (c.value_at.result < size c.requires.tree) =
-    let e = c.word-rows.ensures ∙ (path_rows c.requires).0 in
-    found_row c.requires (c.value_at.ensures ∙ ap (λ (k : ℕ). or_top (first_at c.args.table.now c.args.place 0 k)) e) in
-    path_written c.requires row.0 c.climb.ensures
+returns c = path_written c.requires (found_row c.requires c.word-rows.ensures (sym c.value_at.ensures ∙ c.unwrap.ensures)).0 c.climb.ensures
