@@ -6,11 +6,12 @@ ghost use Rattle.schema.specs.Checking.{check_answer, check_table};
 ghost use Rattle.explain.specs.Pointers.{check_pointer, fitted};
 
 use crate::pointers::write_pointer;
+use rows::Tree;
 use schema::PATH_WORDS;
 use syntax::Answer;
 
 // Check's answer, and how many bytes the pointer has.
-#[derive(Clone, Copy)]
+#[derive(Clone, Copy, Debug, PartialEq, Eq)]
 pub struct Explained {
     pub answer: Answer,
     pub length: usize,
@@ -35,10 +36,14 @@ pub fn explain(
     let mut path = [0u32; PATH_WORDS];
     let r = schema::check(document, schema, table1, table2, &mut dates, &mut path);
     let answer = r.answer;
+    // Check tells a mismatch by its code alone, since C reads the four numbers of an answer.
     if answer.code < 20 {
         return Explained { answer, length: 0 };
     }
-    let steps = r.steps as usize;
-    let length = write_pointer(document, table1, &path[..steps], out);
+    let tree = Tree {
+        text: document,
+        table: table1,
+    };
+    let length = write_pointer(tree, &path[..r.steps as usize], out);
     Explained { answer, length }
 }

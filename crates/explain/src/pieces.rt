@@ -8,7 +8,7 @@ ghost use Rattle.explain.specs.Writing.{Puts, near, far};
 use chars::character_at;
 use writer::write_utf8;
 
-// A byte.
+// A byte. The contract of `get_mut` leaves open what a slice holds behind a write through it, so the place is asked for first.
 pub fn put(out: &mut [u8], at: usize, byte: u8) -> usize
     requires { at < far }
     ensures { Puts (byte ∷ []) at result out.old out.new }
@@ -24,12 +24,10 @@ fn put_all(out: &mut [u8], at: usize, bytes: &[u8]) -> usize
     requires { at + length bytes.now ≤ far }
     ensures { Puts bytes.now at result out.old out.new }
 {
-    let mut i = 0;
-    while i < bytes.len() {
-        put(out, at + i, bytes[i]);
-        i += 1;
+    for (i, byte) in bytes.iter().enumerate() {
+        put(out, at + i, *byte);
     }
-    at + i
+    at + bytes.len()
 }
 
 // The bytes of UTF-8.
@@ -47,13 +45,11 @@ fn put_char(out: &mut [u8], at: usize, c: u32) -> usize
     requires { (c ≤ 0x10FFFF) × (at + 4 ≤ far) }
     ensures { Puts (token_char c) at result out.old out.new }
 {
-    if c == 0x7e {
-        return put_all(out, at, b"~0");
+    match c {
+        0x7e => put_all(out, at, b"~0"),
+        0x2f => put_all(out, at, b"~1"),
+        _ => put_utf8(out, at, c),
     }
-    if c == 0x2f {
-        return put_all(out, at, b"~1");
-    }
-    put_utf8(out, at, c)
 }
 
 // The characters of a name, of which the bytes between the quotes are given.

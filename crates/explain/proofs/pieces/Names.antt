@@ -4,7 +4,7 @@ use mathlib.Core.Path.{◌≡◌, refl, sym, ap, ◌∙◌}
 use mathlib.Core.List.{List, [], ◌∷◌, ◌++◌, append_assoc, append-nil}
 use native.Mathlib.Omega.{arith}
 use lib.ListN.{length, length-append}
-use lib.Dec.{ltb, eqb}
+use lib.Dec.{eqb}
 use Rattle.model.proofs.Basics.{both}
 use Rattle.chars.specs.declared.characters.Step.{Step}
 use Rattle.chars.specs.declared.characters.Step.TheVariants.{Char, Quote}
@@ -14,18 +14,12 @@ use Rattle.chars.specs.declared.characters.Character.{Character}
 use Rattle.chars.specs.Characters.{char_at, character_at}
 use Rattle.chars.specs.Strings.{values_on, chars_from, chars_at, characters}
 use Rattle.chars.proofs.Facts.{char_next, char_read, chars_char, chars_none}
-use Rattle.grammar.specs.Utf8.{utf8}
 use Rattle.explain.specs.Pointers.{token_char, token_chars}
 use Rattle.explain.specs.Writing.{Puts}
 use Rattle.explain.proofs.pieces.Buffers.{puts_none, puts_append, puts_as}
+use Rattle.explain.proofs.pieces.Characters.{utf8_short}
 
 -- ---- at most four bytes for each
-
-utf8_short : (c : ℕ) → length (utf8 c) ≤ 4
-unfolding utf8
-utf8_short c =
-    let P : List ℕ → Type 0 = λ w. length w ≤ 4 in
-    both P (ltb c 0x80) (λ t. omega arith) (λ _. both P (ltb c 0x800) (λ t. omega arith) (λ _. both P (ltb c 0x10000) (λ t. omega arith) (λ t. omega arith)))
 
 pub char_short : (c : ℕ) → length (token_char c) ≤ 4
 unfolding token_char

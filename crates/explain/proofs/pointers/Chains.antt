@@ -3,8 +3,9 @@ use Prim.Native.Nat.{ℕ, ◌+◌, ◌-◌, ◌*◌, ◌≤◌, ◌<◌}
 use mathlib.Core.Path.{◌≡◌, refl, sym, ap, ◌∙◌}
 use mathlib.Core.List.{List, [], ◌∷◌, ◌++◌, append_assoc}
 use native.Mathlib.Omega.{arith}
-use lib.ListN.{length, length-append, get_or}
-use lib.Seq.{get_or_at}
+use lib.ListN.{length, length-append, get_or, take, drop}
+use lib.Seq.{get_or_at, take-length, length-take-le}
+use Rattle.std.proofs.lemmas.List.{get_or-drop, get_or-take, take-take}
 use Rattle.chars.specs.Strings.{part}
 use Rattle.syntax.specs.Tree.{Node, scalar, array, object, Nodes, none, more, Members, no_member, member}
 use Rattle.syntax.specs.Rows.{size}
@@ -201,4 +202,50 @@ module _ {s t path w before : List ℕ} {i at : ℕ} {out : List ℕ} (g : Walke
           deep = omega (arith, g.deep, step_ahead below.step);
           puts = puts_append g.puts u;
           few = omega (arith, g.few, u.next, step_short below.step h (omega arith));
+        }
+
+-- ---- the same, where `rest` are the rows that are left
+
+pub record Downwards (s t path w before rest : List ℕ) (at : ℕ) (out : List ℕ) : Type 0 where
+  pub some : 0 < length rest
+  pub is : rest ≡ take (length rest) path
+  pub walked : Walked s t path w before (length rest - 1) at out
+
+pub downwards_start : {s t path : List ℕ} (d : Chained s t path) (out : List ℕ) → Downwards s t path d.bytes out path 0 out
+downwards_start {path = path} d out =
+    record { some = omega (arith, chain_long d.chain); is = sym (take-length path); walked = walked_start d out }
+
+module _ {s t path w before rest : List ℕ} {at : ℕ} {out : List ℕ} (g : Downwards s t path w before rest at out) where
+  pub downwards_end : length rest < 2 → Puts w 0 at before out
+  downwards_end l = walked_end g.walked (omega arith)
+
+  -- the last two of them are the next step
+  module _ (l : 2 ≤ length rest) {pair : List ℕ} (e : pair ≡ drop (length rest - 2) rest) (h : length s ≤ 65536) (b : (i : ℕ) → get_or path i 0 < 0x100000000) where
+    pair_at : (k : ℕ) → k < 2 → get_or pair k 0 ≡ get_or path (length rest - 2 + k) 0
+    pair_at k m =
+        ap (λ (p : List ℕ). get_or p k 0) e
+        ∙ get_or-drop (length rest - 2) rest k 0
+        ∙ ap (λ (p : List ℕ). get_or p (length rest - 2 + k) 0) g.is
+        ∙ get_or-take (length rest) path (length rest - 2 + k) 0 (omega arith)
+
+    parent_is : get_or pair 1 0 ≡ get_or path (length rest - 1) 0
+    parent_is = let z : length rest - 2 + 1 ≡ length rest - 1 = omega arith in pair_at 1 (omega arith) ∙ ap (λ (i : ℕ). get_or path i 0) z
+
+    child_is : get_or pair 0 0 ≡ get_or path (length rest - 1 - 1) 0
+    child_is = let z : length rest - 2 + 0 ≡ length rest - 1 - 1 = omega arith in pair_at 0 (omega arith) ∙ ap (λ (i : ℕ). get_or path i 0) z
+
+    pub downwards_ready : TokenReady s t (get_or pair 1 0) (get_or pair 0 0) at
+    downwards_ready = rw (parent_is, child_is) (walked_ready g.walked (omega arith) h (b (length rest - 1)))
+
+    pub downwards_next : {k : ℕ} {out₂ : List ℕ} → TokenPut s t (get_or pair 1 0) (get_or pair 0 0) at k out out₂
+        → {rest₂ : List ℕ} → rest₂ ≡ take (length rest - 1) rest → Downwards s t path w before rest₂ k out₂
+    downwards_next {k} {out₂} p {rest₂} q =
+        let n : length rest₂ ≡ length rest - 1 = ap length q ∙ length-take-le (length rest - 1) rest (omega arith) in
+        let u : TokenPut s t (get_or path (length rest - 1) 0) (get_or path (length rest - 1 - 1) 0) at k out out₂ = rw (parent_is, child_is) at p in
+        let v : rest₂ ≡ take (length rest - 1) path =
+            q ∙ ap (λ (r : List ℕ). take (length rest - 1) r) g.is ∙ take-take (length rest - 1) (length rest) path (omega arith) in
+        record {
+          some = omega (arith, n);
+          is = rw n v;
+          walked = rw n (walked_next g.walked (omega arith) h (b (length rest - 1 - 1)) u);
         }

@@ -6,7 +6,7 @@ use Rattle.explain.proofs.pointers.index_of.Given as goal
 
 abbrev pub invariant-loop-row : goal.invariant-loop-row
 invariant-loop-row l =
-    (d : ElementRow l.table l.parent l.child) → Passed l.table l.child d.index d.value l.row l.index
+    (d : ElementRow l.tree.table.now l.parent l.child) → Passed l.tree.table.now l.child d.index d.value l.row l.index
 
 abbrev pub decreases-loop-row : goal.decreases-loop-row
 decreases-loop-row l = l.child - l.row

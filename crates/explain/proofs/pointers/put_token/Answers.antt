@@ -9,19 +9,19 @@ row_at-requires c = in_table c.requires.step.around
 
 pub overflow_sub-child : goal.overflow_sub-child
 overflow_sub-child c =
-    let name : Named c.args.text.now c.args.table.now c.args.child c.requires.step.token =
+    let name : Named c.args.tree.text.now c.args.tree.table.now c.args.child c.requires.step.token =
     step_name c.requires.step c.row_at.ensures c.if-row_at-eq8.true in
     omega (arith, name.behind)
 
 pub row_at-name-requires : goal.row_at-name-requires
 row_at-name-requires c =
-    let name : Named c.args.text.now c.args.table.now c.args.child c.requires.step.token =
+    let name : Named c.args.tree.text.now c.args.tree.table.now c.args.child c.requires.step.token =
     step_name c.requires.step c.row_at.ensures c.if-row_at-eq8.true in
     name.in_table
 
 pub between-requires : goal.between-requires
 between-requires c =
-    let name : Named c.args.text.now c.args.table.now c.args.child c.requires.step.token =
+    let name : Named c.args.tree.text.now c.args.tree.table.now c.args.child c.requires.step.token =
     step_name c.requires.step c.row_at.ensures c.if-row_at-eq8.true in
     quotes_read c.row_at-name.ensures name.quoted
 

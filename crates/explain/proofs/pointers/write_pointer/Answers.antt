@@ -1,84 +1,33 @@
-use Prim.Native.Nat.{◌-◌}
+use mathlib.Core.Path.{refl, ◌∙◌}
 use native.Mathlib.Omega.{arith}
 use Rattle.explain.proofs.pieces.Buffers.{puts_length}
-use Rattle.explain.proofs.pointers.Chains.{chain_long, Chained, Walked, walked_start, walked_end, walked_ready, walked_next}
+use Rattle.explain.proofs.pointers.Chains.{Chained, downwards_start, downwards_end, downwards_ready, downwards_next}
 use Rattle.explain.proofs.pointers.Values.{pointer_written}
 use Rattle.explain.proofs.pointers.Paths.{chained}
 use Rattle.explain.proofs.pointers.write_pointer.Goals as goal
 
-pub overflow_sub-i : goal.overflow_sub-i
-overflow_sub-i c =
-    let steps : Chained c.args.text.now c.args.table.now c.args.path.now =
-    chained c.requires in
-    omega (arith, chain_long steps.chain)
-
-pub loop-i-init : goal.loop-i-init
-loop-i-init c = λ d. walked_start d _
-
-pub offset_bounds-path-i : goal.offset_bounds-path-i
-offset_bounds-path-i c =
-    let steps : Chained c.args.text.now c.args.table.now c.args.path.now =
-    chained c.requires in
-    let walked : Walked c.args.text.now c.args.table.now c.args.path.now steps.bytes c.args.out.now c.loop-i.i c.loop-i.at c.loop-i.out =
-    c.loop-i.invariant steps in
-    omega (arith, walked.place)
-
-pub bounds-path-i : goal.bounds-path-i
-bounds-path-i c =
-    let steps : Chained c.args.text.now c.args.table.now c.args.path.now =
-    chained c.requires in
-    let walked : Walked c.args.text.now c.args.table.now c.args.path.now steps.bytes c.args.out.now c.loop-i.i c.loop-i.at c.loop-i.out =
-    c.loop-i.invariant steps in
-    omega (arith, walked.place)
-
-pub overflow_cast-parent : goal.overflow_cast-parent
-overflow_cast-parent c = omega (arith, c.shared_slice_known-in-loop-i-1.given c.loop-i.i)
-
-pub offset_bounds-path-i-in-loop-i : goal.offset_bounds-path-i-in-loop-i
-offset_bounds-path-i-in-loop-i c =
-    let steps : Chained c.args.text.now c.args.table.now c.args.path.now =
-    chained c.requires in
-    let walked : Walked c.args.text.now c.args.table.now c.args.path.now steps.bytes c.args.out.now c.loop-i.i c.loop-i.at c.loop-i.out =
-    c.loop-i.invariant steps in
-    omega (arith, walked.place)
-
-pub bounds-path-i-in-loop-i : goal.bounds-path-i-in-loop-i
-bounds-path-i-in-loop-i c =
-    let steps : Chained c.args.text.now c.args.table.now c.args.path.now =
-    chained c.requires in
-    let walked : Walked c.args.text.now c.args.table.now c.args.path.now steps.bytes c.args.out.now c.loop-i.i c.loop-i.at c.loop-i.out =
-    c.loop-i.invariant steps in
-    omega (arith, walked.place)
-
-pub overflow_cast-child : goal.overflow_cast-child
-overflow_cast-child c = omega (arith, c.shared_slice_known-in-loop-i-2-1.given (c.loop-i.i - 1))
+pub loop-pair-init : goal.loop-pair-init
+loop-pair-init c =
+    rw (c.into_iter-pair-iterator.ensures.into_iter_gives, c.rev-pair-items.ensures.source, c.windows.ensures.rest, c.windows.ensures.size)
+    (refl, λ d. downwards_start d _)
 
 pub put_token-at-requires : goal.put_token-at-requires
 put_token-at-requires c =
-    let steps : Chained c.args.text.now c.args.table.now c.args.path.now =
-    chained c.requires in
-    let walked : Walked c.args.text.now c.args.table.now c.args.path.now steps.bytes c.args.out.now c.loop-i.i c.loop-i.at c.loop-i.out =
-    c.loop-i.invariant steps in
-    let b = c.shared_slice_known-in-loop-i-2-1.given c.loop-i.i in
-    walked_ready walked c.loop-i-test.true steps.short (omega arith)
+    let z = c.in-Some.ensures.steps in
+    let d = chained c.requires in
+    let n = c.loop-pair.invariant.0 in
+    downwards_ready (c.loop-pair.invariant.1 d) (omega (arith, n, z.1.0)) (rw n at z.1.1) d.short (λ i. omega (arith, c.type_inv.path i))
 
-pub loop-i-preserved : goal.loop-i-preserved
-loop-i-preserved c =
-    λ d. let b = c.shared_slice_known-in-loop-i-2-1.given (c.loop-i.i - 1) in
-    walked_next (c.loop-i.invariant d) c.loop-i-test.true d.short (omega arith) c.put_token-at.ensures
-
-pub shape_of-out : goal.shape_of-out
-shape_of-out c =
-    let steps : Chained c.args.text.now c.args.table.now c.args.path.now =
-    chained c.requires in
-    let walked : Walked c.args.text.now c.args.table.now c.args.path.now steps.bytes c.args.out.now c.loop-i.i c.loop-i.at c.loop-i.out =
-    c.loop-i.invariant steps in
-    puts_length (walked_end walked c.loop-i-test.false)
+pub loop-pair-preserved : goal.loop-pair-preserved
+loop-pair-preserved c =
+    let z = c.in-Some.ensures.steps in
+    let n = c.loop-pair.invariant.0 in
+    (z.0 ∙ n,
+    λ d. downwards_next (c.loop-pair.invariant.1 d) (omega (arith, n, z.1.0)) (rw n at z.1.1) d.short (λ i. omega (arith, c.type_inv.path i))
+    c.put_token-at.ensures z.1.2)
 
 pub returns : goal.returns
 returns c =
-    let steps : Chained c.args.text.now c.args.table.now c.args.path.now =
-    chained c.requires in
-    let walked : Walked c.args.text.now c.args.table.now c.args.path.now steps.bytes c.args.out.now c.loop-i.i c.loop-i.at c.loop-i.out =
-    c.loop-i.invariant steps in
-    pointer_written steps (walked_end walked c.loop-i-test.false)
+    let d = chained c.requires in
+    let z = c.in-None.ensures.steps in
+    pointer_written d (downwards_end (c.loop-pair.invariant.1 d) (omega (arith, c.loop-pair.invariant.0, z.1.0)))
