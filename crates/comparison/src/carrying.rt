@@ -1,240 +1,156 @@
 // Whether every value that meets a new definition meets an old one, by a walk over the rows of both. 01's term is carried.
-ghost use Rattle.std.specs.Prelude.{◌≡◌, true, ◌<◌};
+ghost use Rattle.std.specs.Prelude.{◌≡◌, Some};
 ghost use Rattle.syntax.specs.Grammar.{name_of};
 ghost use Rattle.syntax.specs.Holding.{word as word_of};
-ghost use Rattle.comparison.specs.Carrying.{subtype_name};
 ghost use Rattle.definitions.specs.Shapes.{DefinedRow};
-ghost use Rattle.comparison.specs.Carrying.{IsJsonRow};
-ghost use Rattle.comparison.specs.Fields.{FindsUnder};
-ghost use Rattle.comparison.specs.Fields.{ManyNames};
+ghost use Rattle.comparison.specs.Carrying.{subtype_name, IsJsonRow};
+ghost use Rattle.comparison.specs.Fields.{FindsUnder, ManyNames};
 ghost use Rattle.comparison.specs.Carrying.{Pairing, PairingTo, Decided, FieldPairing, FieldDecided, FieldsPairing, FieldsFailing};
 ghost use Rattle.definitions.specs.declared.types.Generic.TheVariants.{Array, Map, Object};
 
 use crate::fields::{find_under, match_under, wide_under};
 use definitions::{Generic, TypeName, generic_at, of_objects, type_at};
-use rows::{MOST_NAMES, between, find, row_at};
+use rows::{MOST_NAMES, Tree};
 
-// Whether one type name is carried to another.
-fn carried_name(new: TypeName, old: TypeName) -> bool
+// Whether a definition that names one type, or none, is carried to one that names another.
+#[tactic(auto, unfolding(crate::specs::Carrying::subtype_name))]
+fn carried_name(new: Option<TypeName>, old: Option<TypeName>) -> bool
     ensures { result ≡ subtype_name new old }
 {
-    match old {
-        TypeName::Json => true,
-        TypeName::Schema => match new {
-            TypeName::Schema => true,
-            _ => false,
-        },
-        TypeName::Float => match new {
-            TypeName::Float => true,
-            TypeName::Integer => true,
-            _ => false,
-        },
-        TypeName::Integer => match new {
-            TypeName::Integer => true,
-            _ => false,
-        },
-        TypeName::Text => match new {
-            TypeName::Text => true,
-            TypeName::DateTime => true,
-            _ => false,
-        },
-        TypeName::Boolean => match new {
-            TypeName::Boolean => true,
-            _ => false,
-        },
-        TypeName::DateTime => match new {
-            TypeName::DateTime => true,
-            _ => false,
-        },
-        TypeName::Unknown => false,
+    match (new, old) {
+        (_, Some(TypeName::Json)) => true,
+        (Some(TypeName::Integer), Some(TypeName::Float)) => true,
+        (Some(TypeName::DateTime), Some(TypeName::Text)) => true,
+        (Some(new), Some(old)) => new == old,
+        _ => false,
     }
 }
 
 // Whether the definition at a row is JSON, which takes every value.
-fn is_json(text: &[u8], table: &[u32], row: usize) -> bool
-    requires { DefinedRow text.now table.now row }
-    ensures { IsJsonRow text.now table.now row result }
+fn is_json(tree: Tree, row: usize) -> bool
+    requires { DefinedRow tree.text.now tree.table.now row }
+    ensures { IsJsonRow tree.entry.text.now tree.entry.table.now row result }
 {
-    carried_name(TypeName::Json, type_at(text, table, row))
+    carried_name(Some(TypeName::Json), type_at(tree, row))
 }
 
 // Whether the new definition at row `a` is carried to the old one at row `b`.
 #[cycle(carried_carried_field_carried_found_carried_to_array_carried_to_map_carried_to_object_failing_field_failing_wide)]
-pub fn carried(new: &[u8], old: &[u8], rows1: &[u32], rows2: &[u32], a: usize, b: usize) -> bool
-    requires { Pairing new.now old.now rows1.now rows2.now a b }
-    ensures { Decided new.now old.now rows1.now rows2.now a b result }
+pub fn carried(new: Tree, old: Tree, a: usize, b: usize) -> bool
+    requires { Pairing new.text.now old.text.now new.table.now old.table.now a b }
+    ensures { Decided new.entry.text.now old.entry.text.now new.entry.table.now old.entry.table.now a b result }
 {
-    match generic_at(old, rows2, b) {
-        Generic::Array => carried_to_array(new, old, rows1, rows2, a, b),
-        Generic::Map => carried_to_map(new, old, rows1, rows2, a, b),
-        Generic::Object => carried_to_object(new, old, rows1, rows2, a, b),
-        Generic::Other => carried_name(type_at(new, rows1, a), type_at(old, rows2, b)),
+    match generic_at(old, b) {
+        Some(Generic::Array) => carried_to_array(new, old, a, b),
+        Some(Generic::Map) => carried_to_map(new, old, a, b),
+        Some(Generic::Object) => carried_to_object(new, old, a, b),
+        None => carried_name(type_at(new, a), type_at(old, b)),
     }
 }
 
 // The same where the old one is an Array.
 #[cycle(carried_carried_field_carried_found_carried_to_array_carried_to_map_carried_to_object_failing_field_failing_wide)]
-fn carried_to_array(
-    new: &[u8],
-    old: &[u8],
-    rows1: &[u32],
-    rows2: &[u32],
-    a: usize,
-    b: usize,
-) -> bool
-    requires { PairingTo new.now old.now rows1.now rows2.now a b Array }
-    ensures { Decided new.now old.now rows1.now rows2.now a b result }
+fn carried_to_array(new: Tree, old: Tree, a: usize, b: usize) -> bool
+    requires { PairingTo new.text.now old.text.now new.table.now old.table.now a b Array }
+    ensures { Decided new.entry.text.now old.entry.text.now new.entry.table.now old.entry.table.now a b result }
 {
-    match generic_at(new, rows1, a) {
-        Generic::Array => carried(new, old, rows1, rows2, a + 2, b + 2),
-        Generic::Map => false,
-        Generic::Object => false,
-        Generic::Other => false,
-    }
+    generic_at(new, a) == Some(Generic::Array) && carried(new, old, a + 2, b + 2)
 }
 
 // The same where the old one is a Map: an Object puts anything under the names that it does not name.
 #[cycle(carried_carried_field_carried_found_carried_to_array_carried_to_map_carried_to_object_failing_field_failing_wide)]
-fn carried_to_map(new: &[u8], old: &[u8], rows1: &[u32], rows2: &[u32], a: usize, b: usize) -> bool
-    requires { PairingTo new.now old.now rows1.now rows2.now a b Map }
-    ensures { Decided new.now old.now rows1.now rows2.now a b result }
+fn carried_to_map(new: Tree, old: Tree, a: usize, b: usize) -> bool
+    requires { PairingTo new.text.now old.text.now new.table.now old.table.now a b Map }
+    ensures { Decided new.entry.text.now old.entry.text.now new.entry.table.now old.entry.table.now a b result }
 {
-    match generic_at(new, rows1, a) {
-        Generic::Array => false,
-        Generic::Map => carried(new, old, rows1, rows2, a + 2, b + 2),
-        Generic::Object => is_json(old, rows2, b + 2),
-        Generic::Other => false,
+    match generic_at(new, a) {
+        Some(Generic::Map) => carried(new, old, a + 2, b + 2),
+        Some(Generic::Object) => is_json(old, b + 2),
+        Some(Generic::Array) => false,
+        None => false,
     }
 }
 
 // The same where the old one is an Object.
 #[cycle(carried_carried_field_carried_found_carried_to_array_carried_to_map_carried_to_object_failing_field_failing_wide)]
-fn carried_to_object(
-    new: &[u8],
-    old: &[u8],
-    rows1: &[u32],
-    rows2: &[u32],
-    a: usize,
-    b: usize,
-) -> bool
-    requires { PairingTo new.now old.now rows1.now rows2.now a b Object }
-    ensures { Decided new.now old.now rows1.now rows2.now a b result }
+fn carried_to_object(new: Tree, old: Tree, a: usize, b: usize) -> bool
+    requires { PairingTo new.text.now old.text.now new.table.now old.table.now a b Object }
+    ensures { Decided new.entry.text.now old.entry.text.now new.entry.table.now old.entry.table.now a b result }
 {
-    if !of_objects(new, rows1, a) {
-        return false;
-    }
-    let required = find(old, rows2, b + 2, b"required");
-    if failing_field(new, old, rows1, rows2, a, required, true) > 0 {
-        return false;
-    }
-    let optional = find(old, rows2, b + 2, b"optional");
-    failing_field(new, old, rows1, rows2, a, optional, false) == 0
+    of_objects(new, a)
+        && failing_field(new, old, a, old.find(b + 2, b"required"), true).is_none()
+        && failing_field(new, old, a, old.find(b + 2, b"optional"), false).is_none()
 }
 
-// The row of the name of the first of the old fields at row `fields`, of which row 0 has none, to which the new definition at row `a` is not carried; 0 where it is carried to each.
+// The row of the name of the first of the old fields at a row to which the new definition at row `a` is not carried.
 #[cycle(carried_carried_field_carried_found_carried_to_array_carried_to_map_carried_to_object_failing_field_failing_wide)]
 pub fn failing_field(
-    new: &[u8],
-    old: &[u8],
-    rows1: &[u32],
-    rows2: &[u32],
+    new: Tree,
+    old: Tree,
     a: usize,
-    fields: usize,
+    fields: Option<usize>,
     required: bool,
-) -> usize
-    requires { FieldsPairing new.now old.now rows1.now rows2.now a fields }
-    ensures { FieldsFailing new.now old.now rows1.now rows2.now a fields required result }
+) -> Option<usize>
+    requires { FieldsPairing new.text.now old.text.now new.table.now old.table.now a fields }
+    ensures { FieldsFailing new.entry.text.now old.entry.text.now new.entry.table.now old.entry.table.now a fields required result }
 {
-    if fields == 0 {
-        return 0;
+    let object = fields?;
+    if wide_under(new, a, old.row_at(object).children) {
+        return failing_wide(new, old, a, object, required);
     }
-    let mut left = row_at(rows2, fields).children;
-    if wide_under(new, rows1, a, left) {
-        return failing_wide(new, old, rows1, rows2, a, fields, required);
-    }
-    let mut row = fields + 1;
-    while left > 0 {
-        if !carried_field(new, old, rows1, rows2, a, row, required) {
-            return row;
+    for row in old.members(object) {
+        if !carried_field(new, old, a, row, required) {
+            return Some(row);
         }
-        row = row_at(rows2, row + 1).next;
-        left -= 1;
     }
-    0
+    None
 }
 
 // The same where both have many names: each is looked up by an index.
 #[cycle(carried_carried_field_carried_found_carried_to_array_carried_to_map_carried_to_object_failing_field_failing_wide)]
-fn failing_wide(
-    new: &[u8],
-    old: &[u8],
-    rows1: &[u32],
-    rows2: &[u32],
-    a: usize,
-    fields: usize,
-    required: bool,
-) -> usize
-    requires fields_pairing { FieldsPairing new.now old.now rows1.now rows2.now a fields }
-    requires fields_nonzero { (0 < fields) × ManyNames new.now rows1.now a (word_of rows2.now fields 3) }
-    ensures { FieldsFailing new.now old.now rows1.now rows2.now a fields required result }
+fn failing_wide(new: Tree, old: Tree, a: usize, object: usize, required: bool) -> Option<usize>
+    requires fields_pairing { FieldsPairing new.text.now old.text.now new.table.now old.table.now a (Some object) }
+    requires many_names { ManyNames new.text.now new.table.now a (word_of old.table.now object 3) }
+    ensures { FieldsFailing new.entry.text.now old.entry.text.now new.entry.table.now old.entry.table.now a (Some object) required result }
 {
-    let mut values = [0usize; MOST_NAMES];
-    match_under(new, rows1, a, old, rows2, fields, required, &mut values);
-    let count = row_at(rows2, fields).children as usize;
-    let mut i: usize = 0;
-    let mut row = fields + 1;
-    while i < count {
-        let found = values[i];
-        if !carried_found(new, old, rows1, rows2, a, found, row, required) {
-            return row;
+    let mut values = [None; MOST_NAMES];
+    match_under(new, a, old, object, required, &mut values);
+    for (i, row) in old.members(object).enumerate() {
+        if !carried_found(new, old, a, values[i], row, required) {
+            return Some(row);
         }
-        row = row_at(rows2, row + 1).next;
-        i += 1;
     }
-    0
+    None
 }
 
 // Whether it is carried to one field, its name at row `row`: what the new one asks under it is carried, and a required name is required.
 #[cycle(carried_carried_field_carried_found_carried_to_array_carried_to_map_carried_to_object_failing_field_failing_wide)]
-fn carried_field(
-    new: &[u8],
-    old: &[u8],
-    rows1: &[u32],
-    rows2: &[u32],
-    a: usize,
-    row: usize,
-    required: bool,
-) -> bool
-    requires { FieldPairing new.now old.now rows1.now rows2.now a row }
-    ensures { FieldDecided new.now old.now rows1.now rows2.now a row required result }
+fn carried_field(new: Tree, old: Tree, a: usize, row: usize, required: bool) -> bool
+    requires { FieldPairing new.text.now old.text.now new.table.now old.table.now a row }
+    ensures { FieldDecided new.entry.text.now old.entry.text.now new.entry.table.now old.entry.table.now a row required result }
 {
-    let name = row_at(rows2, row);
-    let key = between(old, name.first, name.end);
-    let found = find_under(new, rows1, a, key, required);
-    carried_found(new, old, rows1, rows2, a, found, row, required)
+    let name = old.row_at(row);
+    let key = old.between(name.first, name.end);
+    let found = find_under(new, a, key, required);
+    carried_found(new, old, a, found, row, required)
 }
 
-// The same where row `found` of the new definition was found for the name, or 0.
+// The same where row `found` of the new definition was found for the name, or none.
 #[cycle(carried_carried_field_carried_found_carried_to_array_carried_to_map_carried_to_object_failing_field_failing_wide)]
 fn carried_found(
-    new: &[u8],
-    old: &[u8],
-    rows1: &[u32],
-    rows2: &[u32],
+    new: Tree,
+    old: Tree,
     a: usize,
-    found: usize,
+    found: Option<usize>,
     row: usize,
     required: bool,
 ) -> bool
-    requires field_pairing { FieldPairing new.now old.now rows1.now rows2.now a row }
-    requires finds_under { FindsUnder new.now rows1.now a (name_of old.now (word_of rows2.now row 1) (word_of rows2.now row 2)) required found }
-    ensures { FieldDecided new.now old.now rows1.now rows2.now a row required result }
+    requires field_pairing { FieldPairing new.text.now old.text.now new.table.now old.table.now a row }
+    requires finds_under { FindsUnder new.text.now new.table.now a (name_of old.text.now (word_of old.table.now row 1) (word_of old.table.now row 2)) required found }
+    ensures { FieldDecided new.entry.text.now old.entry.text.now new.entry.table.now old.entry.table.now a row required result }
 {
-    if found > 0 {
-        return carried(new, old, rows1, rows2, found, row + 1);
+    match found {
+        Some(value) => carried(new, old, value, row + 1),
+        None => !required && is_json(old, row + 1),
     }
-    if required {
-        return false;
-    }
-    is_json(old, rows2, row + 1)
 }

@@ -6,6 +6,7 @@ ghost use Rattle.comparison.specs.Comparing.{Compares, compare_table};
 
 use crate::carrying::carried;
 use definitions::accept;
+use rows::Tree;
 use syntax::Answer;
 
 // Compares a new schema with an old one.
@@ -14,15 +15,21 @@ pub fn compare(new: &[u8], old: &[u8], table1: &mut [u32], table2: &mut [u32]) -
     ensures rows1 { table1.new ≡ table_of table1.old (read_schema new.now) }
     ensures rows2 { table2.new ≡ compare_table (length table1.old) table2.old new.now old.now }
 {
-    let first = accept(1, new, table1);
-    if first.code != 0 {
-        return first;
+    if let Err(answer) = accept(1, new, table1) {
+        return answer;
     }
-    let second = accept(2, old, table2);
-    if second.code != 0 {
-        return second;
+    if let Err(answer) = accept(2, old, table2) {
+        return answer;
     }
-    if carried(new, old, table1, table2, 0, 0) {
+    let new = Tree {
+        text: new,
+        table: table1,
+    };
+    let old = Tree {
+        text: old,
+        table: table2,
+    };
+    if carried(new, old, 0, 0) {
         return Answer::new(0, 0, 0, 0);
     }
     Answer::new(30, 0, 0, 0)

@@ -1,142 +1,114 @@
 // The definition that a definition has under a name, by its row: for one name, or for many at once.
-ghost use Rattle.std.specs.Prelude.{◌≡◌, true, ◌≤◌, ◌<◌, length, replicate};
+ghost use Rattle.std.specs.Prelude.{◌≡◌, true, ◌≤◌, length, replicate, Some, None};
 ghost use Rattle.chars.specs.Strings.{characters};
 ghost use Rattle.syntax.specs.Holding.{word as word_of};
 ghost use Rattle.definitions.specs.Shapes.{DefinedRow, GenericRow, FieldsRow};
 ghost use Rattle.rows.specs.Matching.{most_names};
-ghost use Rattle.comparison.specs.Fields.{FindsField, FindsUnder};
 ghost use Rattle.rows.specs.Records.{ObjectRow};
-ghost use Rattle.comparison.specs.Fields.{MatchesFields, MatchesUnder, ManyNames};
+ghost use Rattle.comparison.specs.Fields.{FindsField, FindsUnder, MatchesFields, MatchesUnder, ManyNames};
 ghost use Rattle.definitions.specs.declared.types.Generic.TheVariants.{Object};
 
 use definitions::{Generic, generic_at};
-use rows::{FEW_NAMES, MOST_NAMES, find, match_names, row_at, wide};
+use rows::{FEW_NAMES, MOST_NAMES, Tree, wide};
 
-// The row of the definition under a name, given as the bytes between its quotes, in the fields at a row, of which row 0 has none; 0 where there is none.
-fn find_field(text: &[u8], table: &[u32], fields: usize, key: &[u8]) -> usize
-    requires { FieldsRow text.now table.now fields }
-    ensures { FindsField text.now table.now fields (characters key.now) result }
+// The row of the definition under a name, given as the bytes between its quotes, in the fields at a row.
+fn find_field(tree: Tree, fields: Option<usize>, key: &[u8]) -> Option<usize>
+    requires { FieldsRow tree.text.now tree.table.now fields }
+    ensures { FindsField tree.entry.text.now tree.entry.table.now fields (characters key.now) result }
 {
-    if fields == 0 {
-        return 0;
-    }
-    find(text, table, fields, key)
+    tree.find(fields?, key)
 }
 
-// The row of the definition under a name in the Object definition at a row, where `required` only of a required name; 0 where there is none.
-fn find_in_object(text: &[u8], table: &[u32], row: usize, key: &[u8], required: bool) -> usize
-    requires defined_row { DefinedRow text.now table.now row }
-    requires generic_row { GenericRow text.now table.now row Object }
-    ensures { FindsUnder text.now table.now row (characters key.now) required result }
+// The row of the definition under a name in the Object definition at a row, where `required` only of a required name.
+fn find_in_object(tree: Tree, row: usize, key: &[u8], required: bool) -> Option<usize>
+    requires defined_row { DefinedRow tree.text.now tree.table.now row }
+    requires generic_row { GenericRow tree.text.now tree.table.now row (Some Object) }
+    ensures { FindsUnder tree.entry.text.now tree.entry.table.now row (characters key.now) required result }
 {
-    let found = find_field(text, table, find(text, table, row + 2, b"required"), key);
-    if found > 0 {
+    let found = find_field(tree, tree.find(row + 2, b"required"), key);
+    if required || found.is_some() {
         return found;
     }
-    if required {
-        return 0;
-    }
-    find_field(text, table, find(text, table, row + 2, b"optional"), key)
+    find_field(tree, tree.find(row + 2, b"optional"), key)
 }
 
 // The same in a definition of any kind: a Map's definition stands under every name, and none is required.
-pub fn find_under(text: &[u8], table: &[u32], row: usize, key: &[u8], required: bool) -> usize
-    requires { DefinedRow text.now table.now row }
-    ensures { FindsUnder text.now table.now row (characters key.now) required result }
+pub fn find_under(tree: Tree, row: usize, key: &[u8], required: bool) -> Option<usize>
+    requires { DefinedRow tree.text.now tree.table.now row }
+    ensures { FindsUnder tree.entry.text.now tree.entry.table.now row (characters key.now) required result }
 {
-    match generic_at(text, table, row) {
-        Generic::Array => 0,
-        Generic::Map => {
-            if required {
-                return 0;
-            }
-            row + 2
-        }
-        Generic::Object => find_in_object(text, table, row, key, required),
-        Generic::Other => 0,
+    match generic_at(tree, row) {
+        Some(Generic::Object) => find_in_object(tree, row, key, required),
+        Some(Generic::Map) => (!required).then_some(row + 2),
+        Some(Generic::Array) => None,
+        None => None,
     }
 }
 
-// Whether a part of an Object definition, its fields at a row, has many names beside `names` others; row 0 has none.
-fn wide_part(text: &[u8], table: &[u32], fields: usize, names: u32) -> bool
-    requires { FieldsRow text.now table.now fields }
+// Whether a part of an Object definition, its fields at a row, has many names beside `names` others.
+fn wide_part(tree: Tree, fields: Option<usize>, names: u32) -> bool
+    requires { FieldsRow tree.text.now tree.table.now fields }
     ensures { result ≡ true → names ≤ most_names }
 {
-    if fields == 0 {
-        return false;
+    match fields {
+        Some(object) => wide(tree.row_at(object).children, names),
+        None => false,
     }
-    wide(row_at(table, fields).children, names)
 }
 
 // The same of a part of the Object definition at a row.
-fn wide_object(text: &[u8], table: &[u32], row: usize, names: u32) -> bool
-    requires defined_row { DefinedRow text.now table.now row }
-    requires generic_row { GenericRow text.now table.now row Object }
+fn wide_object(tree: Tree, row: usize, names: u32) -> bool
+    requires defined_row { DefinedRow tree.text.now tree.table.now row }
+    requires generic_row { GenericRow tree.text.now tree.table.now row (Some Object) }
     ensures { result ≡ true → names ≤ most_names }
 {
-    if wide_part(text, table, find(text, table, row + 2, b"required"), names) {
-        return true;
-    }
-    wide_part(text, table, find(text, table, row + 2, b"optional"), names)
+    wide_part(tree, tree.find(row + 2, b"required"), names)
+        || wide_part(tree, tree.find(row + 2, b"optional"), names)
 }
 
 // Whether the definition at a row is an Object with many names, beside `names` others.
-pub fn wide_under(text: &[u8], table: &[u32], row: usize, names: u32) -> bool
-    requires { DefinedRow text.now table.now row }
-    ensures { result ≡ true → ManyNames text.now table.now row names }
+pub fn wide_under(tree: Tree, row: usize, names: u32) -> bool
+    requires { DefinedRow tree.text.now tree.table.now row }
+    ensures { result ≡ true → ManyNames tree.entry.text.now tree.entry.table.now row names }
 {
-    if names < FEW_NAMES {
-        return false;
-    }
-    match generic_at(text, table, row) {
-        Generic::Array => false,
-        Generic::Map => false,
-        Generic::Object => wide_object(text, table, row, names),
-        Generic::Other => false,
-    }
+    names >= FEW_NAMES
+        && generic_at(tree, row) == Some(Generic::Object)
+        && wide_object(tree, row, names)
 }
 
-// For each member at row `part` of the second table for which nothing is found yet: the definition under its name in the fields at a row of the first.
+// For each member at row `part` of another tree for which nothing is found yet: the definition under its name in the fields at a row.
 fn match_fields(
-    text1: &[u8],
-    table1: &[u32],
-    fields: usize,
-    text2: &[u8],
-    table2: &[u32],
+    tree: Tree,
+    fields: Option<usize>,
+    other: Tree,
     part: usize,
-    found: &mut [usize; MOST_NAMES],
+    found: &mut [Option<usize>; MOST_NAMES],
 )
-    requires fields_row { FieldsRow text1.now table1.now fields × ObjectRow text2.now table2.now part }
-    requires part_bound { (word_of table2.now part 3 ≤ most_names) × (length found.old ≡ most_names) }
-    ensures { MatchesFields text1.now table1.now fields text2.now table2.now part found.old found.new }
+    requires fields_row { FieldsRow tree.text.now tree.table.now fields × ObjectRow other.text.now other.table.now part }
+    requires part_bound { (word_of other.table.now part 3 ≤ most_names) × (length found.old ≡ most_names) }
+    ensures { MatchesFields tree.entry.text.now tree.entry.table.now fields other.entry.text.now other.entry.table.now part found.old found.new }
 {
-    if fields == 0 {
-        return;
+    if let Some(object) = fields {
+        tree.match_names(object, other, part, found);
     }
-    match_names(text1, table1, fields, text2, table2, part, found);
 }
 
-// For each member at row `part` of the second table what `find_in_object` finds in the Object definition at a row of the first.
+// For each member at row `part` of another tree what `find_in_object` finds in the Object definition at a row.
 pub fn match_under(
-    text1: &[u8],
-    table1: &[u32],
+    tree: Tree,
     row: usize,
-    text2: &[u8],
-    table2: &[u32],
+    other: Tree,
     part: usize,
     required: bool,
-    found: &mut [usize; MOST_NAMES],
+    found: &mut [Option<usize>; MOST_NAMES],
 )
-    requires defined_row { DefinedRow text1.now table1.now row × GenericRow text1.now table1.now row Object }
-    requires object_row { ObjectRow text2.now table2.now part }
-    requires part_bound { (word_of table2.now part 3 ≤ most_names) × (found.old ≡ replicate most_names 0) }
-    ensures { MatchesUnder text1.now table1.now row text2.now table2.now part required found.new }
+    requires defined_row { DefinedRow tree.text.now tree.table.now row × GenericRow tree.text.now tree.table.now row (Some Object) }
+    requires object_row { ObjectRow other.text.now other.table.now part }
+    requires part_bound { (word_of other.table.now part 3 ≤ most_names) × (found.old ≡ replicate most_names None) }
+    ensures { MatchesUnder tree.entry.text.now tree.entry.table.now row other.entry.text.now other.entry.table.now part required found.new }
 {
-    let first = find(text1, table1, row + 2, b"required");
-    match_fields(text1, table1, first, text2, table2, part, found);
-    if required {
-        return;
+    match_fields(tree, tree.find(row + 2, b"required"), other, part, found);
+    if !required {
+        match_fields(tree, tree.find(row + 2, b"optional"), other, part, found);
     }
-    let second = find(text1, table1, row + 2, b"optional");
-    match_fields(text1, table1, second, text2, table2, part, found);
 }

@@ -1,30 +1,27 @@
 -- The decision that `failing_field` makes field by field is the one of `subtype` on definitions (01, demand 3).
 use Prim.Native.Nat.{ℕ}
 use mathlib.Core.Path.{◌≡◌, refl, ap, ap₂, ◌∙◌}
-use mathlib.Core.Bool.{Bool, true, false, cond, ◌&&◌, ◌||◌}
-use mathlib.Core.Option.{Option, none, some}
+use mathlib.Core.Bool.{Bool, true, false, not, cond, ◌&&◌, ◌||◌}
 use mathlib.Core.List.{List}
-use native.Mathlib.Omega.{arith}
-use lib.Dec.{eqb}
-use borrow.Author.Tests.{eq-eqb, ne_eqb}
+use Rattle.std.specs.Prelude.{Option, Some, None, is_some, is_none}
+use Rattle.model.proofs.Basics.{never}
 use Rattle.model.specs.Text.{same}
 use Rattle.model.specs.Definition.{JSON, Def, named, array_of, map_of, object-of, Fields, fnil, fcons, has_field}
 use Rattle.model.specs.Subtype.{subtype, subtype_fields, of_objects, field_or, under, requires, requires_all}
-use Rattle.model.specs.Meeting.{is_some}
 use Rattle.comparison.specs.Carrying.{field_subtype, first_failing, Fails}
 use Rattle.comparison.specs.Fields.{field_named, or_field, definition_under}
 
 -- ---- the decision on fields is the one on definitions
 
 abbrev pub or_def : Def → Option Def → Def
-or_def e none = e
-or_def e (some d) = d
+or_def e None = e
+or_def e (Some d) = d
 
 pub field_or_lem : (e : Def) (n : List ℕ) (fs : Fields) → field_or e n fs ≡ or_def e (field_named n fs)
 field_or_lem e n fnil = refl
 field_or_lem e n (fcons m d fs) = choose (same n m) (field_or_lem e n fs)
   where
-    choose : (b : Bool) → field_or e n fs ≡ or_def e (field_named n fs) → cond b d (field_or e n fs) ≡ or_def e (cond b (some d) (field_named n fs))
+    choose : (b : Bool) → field_or e n fs ≡ or_def e (field_named n fs) → cond b d (field_or e n fs) ≡ or_def e (cond b (Some d) (field_named n fs))
     choose true h = refl
     choose false h = h
 
@@ -32,7 +29,7 @@ has_field_lem : (n : List ℕ) (fs : Fields) → has_field n fs ≡ is_some (fie
 has_field_lem n fnil = refl
 has_field_lem n (fcons m d fs) = choose (same n m) (has_field_lem n fs)
   where
-    choose : (b : Bool) → has_field n fs ≡ is_some (field_named n fs) → b || has_field n fs ≡ is_some (cond b (some d) (field_named n fs))
+    choose : (b : Bool) → has_field n fs ≡ is_some (field_named n fs) → b || has_field n fs ≡ is_some (cond b (Some d) (field_named n fs))
     choose true h = refl
     choose false h = h
 
@@ -44,9 +41,9 @@ field_any (map_of d) n q = refl
 field_any (object-of r o) n q = rw (field_or_lem (field_or (named JSON) n o) n r, field_or_lem (named JSON) n o) (go (field_named n r) (field_named n o))
   where
     go : (x y : Option Def) → subtype (or_def (or_def (named JSON) y) x) q ≡ field_subtype false (or_field x y) q
-    go none none = refl
-    go none (some d) = refl
-    go (some d) y = refl
+    go None None = refl
+    go None (Some d) = refl
+    go (Some d) y = refl
 
 -- a required field: it asks for the name too
 pub field_all : (a : Def) (n : List ℕ) (q : Def) → requires a n && subtype (under a n) q ≡ field_subtype true (definition_under true a n) q
@@ -56,19 +53,14 @@ field_all (map_of d) n q = refl
 field_all (object-of r o) n q = rw (field_or_lem (field_or (named JSON) n o) n r, has_field_lem n r) (go (field_named n r))
   where
     go : (x : Option Def) → is_some x && subtype (or_def (field_or (named JSON) n o) x) q ≡ field_subtype true x q
-    go none = refl
-    go (some d) = refl
-
--- no field fails
-abbrev is_none : Option (List ℕ × Def) → Bool
-is_none none = true
-is_none (some f) = false
+    go None = refl
+    go (Some d) = refl
 
 -- a is carried to each of the fields
 abbrev pub none_fails : Bool → Def → Fields → Bool
 none_fails required a fs = is_none (first_failing required a fs)
 
-none_first : (b : Bool) (x : Option (List ℕ × Def)) (f : List ℕ × Def) → b && is_none x ≡ is_none (cond b x (some f))
+none_first : (b : Bool) (x : Option (List ℕ × Def)) (f : List ℕ × Def) → b && is_none x ≡ is_none (cond b x (Some f))
 none_first true x f = refl
 none_first false x f = refl
 
@@ -97,7 +89,11 @@ fields_all a (fcons n q fs) c =
 pub objects_subtype : (a : Def) (r o : Fields) → of_objects a ≡ true → subtype a (object-of r o) ≡ none_fails true a r && none_fails false a o
 objects_subtype a r o h = rw h (fields_all a r (subtype_fields a o) ∙ ap (λ (b : Bool). none_fails true a r && b) (fields_any a o))
 
--- the row of the first that fails is 0 where none fails
-pub fails_none : (s t : List ℕ) (r v : ℕ) (x : Option (List ℕ × Def)) → Fails s t r v x → eqb v 0 ≡ is_none x
-fails_none s t r v none h = eq-eqb v 0 h
-fails_none s t r v (some f) h = ne_eqb v 0 (λ e. omega (arith, h.0))
+-- there is a row of one that fails just where one does
+pub fails_none : (s t : List ℕ) (r v : Option ℕ) (x : Option (List ℕ × Def)) (b : Bool) → Fails s t r v x → is_some v ≡ not b → b ≡ is_none x
+fails_none s t r None None true h q = refl
+fails_none s t r None None false h q = never (cc)
+fails_none s t r None (Some f) b h q = absurd h
+fails_none s t r (Some v) None b h q = absurd h
+fails_none s t r (Some v) (Some f) true h q = never (cc)
+fails_none s t r (Some v) (Some f) false h q = refl

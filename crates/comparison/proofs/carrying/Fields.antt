@@ -1,178 +1,146 @@
 -- Whether a new definition is carried to the fields of an old Object: `InFields` and `InWide` are the invariants of the loops over them,
 -- with a law for each way through (`failing_field`, `failing_wide`, `carried_found`).
-use Prim.Native.Nat.{ℕ, ◌+◌, ◌-◌, ◌≤◌, ◌<◌}
+use Prim.Native.Nat.{ℕ, ◌+◌, ◌≤◌, ◌<◌}
 use mathlib.Core.Path.{◌≡◌, refl, sym, ap, subst, ◌∙◌}
 use mathlib.Core.Bool.{Bool, true, false, cond}
-use mathlib.Core.Option.{Option, none, some}
 use mathlib.Core.List.{List}
 use native.Mathlib.Omega.{arith}
-use lib.ListN.{get_or}
-use Rattle.model.specs.Definition.{JSON, Def, named}
+use Rattle.std.specs.Prelude.{Option, Some, None}
+use Rattle.model.specs.Definition.{Def}
 use Rattle.model.specs.Subtype.{subtype}
 use Rattle.syntax.specs.Grammar.{name_of}
 use Rattle.syntax.specs.Holding.{word}
 use Rattle.definitions.specs.Definitions.{LocatedFields, bare, bare_fields}
-use Rattle.comparison.specs.Carrying.{IsJsonRow, Pairing, Decided, field_subtype, first_failing, FieldPairing, FieldDecided, FieldsPairing}
+use Rattle.comparison.specs.Carrying.{Pairing, Decided, field_subtype, first_failing, FieldPairing, FieldDecided, FieldsPairing}
 use Rattle.comparison.specs.Carrying.{FieldAt, Fails, FieldsFailing}
-use Rattle.rows.specs.Records.{Reads}
+use Rattle.rows.specs.Children.{Passes, Begins}
+use Rattle.rows.specs.declared.children.Children.{Children}
 use Rattle.definitions.specs.Shapes.{DefinedRow}
 use Rattle.comparison.specs.Fields.{definition_under, Gives, FindsUnder, MatchesUnder}
-use Rattle.rows.specs.declared.records.Record.{Record}
-use Rattle.definitions.proofs.Facts.{part_rows, part_rows_lem, FieldsLeft, FieldHere, field_here, fields_none, fields_start, fields_end, same_fields}
-use Rattle.rows.proofs.Facts.{part_object, MemberHere, members_start, member_here}
+use Rattle.definitions.proofs.Facts.{FieldsLeft, FieldHere, field_here, fields_none, fields_start, fields_end, same_fields}
+use Rattle.rows.proofs.Facts.{part_object, MemberHere, members_start, name_here}
 use Rattle.rows.proofs.Facts.{Answers, answers_start, answers_here, answers_next}
-use Rattle.rows.specs.Matching.{most_names}
+use Rattle.rows.specs.Matching.{most_names, found_at}
 
 -- ---- the old fields, one after the other
 
-module _ {s₁ s₂ t₁ t₂ : List ℕ} {r₁ r₂ : ℕ} (required : Bool) (p : FieldsPairing s₁ s₂ t₁ t₂ r₁ r₂) where
+module _ {s₁ s₂ t₁ t₂ : List ℕ} {r₁ : ℕ} {r₂ : Option ℕ} (required : Bool) (p : FieldsPairing s₁ s₂ t₁ t₂ r₁ r₂) where
   -- the first of the fields fs to which the new definition is not carried
   abbrev pub failing : LocatedFields → Option (List ℕ × Def)
   failing fs = first_failing required (bare p.new.definition) (bare_fields fs)
 
--- before the field whose name is at row `here`, with `left` fields not yet compared: none before it fails
-pub record InFields (s₁ s₂ t₁ t₂ : List ℕ) (r₁ r₂ : ℕ) (required : Bool) (here left : ℕ) : Type 0 where
-  pub given : FieldsPairing s₁ s₂ t₁ t₂ r₁ r₂
-  pub present : 0 < r₂
-  pub past : 0 < here  -- row 0 stands for none
+-- before the fields at row r₂ whose names are left: none before them fails
+pub record InFields (s₁ s₂ t₁ t₂ : List ℕ) (r₁ r₂ : ℕ) (required : Bool) (c : Children 1) : Type 0 where
+  pub given : FieldsPairing s₁ s₂ t₁ t₂ r₁ (Some r₂)
+  pub past : 0 < c.row
   pub fields : LocatedFields
-  pub ahead : FieldsLeft s₂ t₂ r₂ here left fields
-  pub stays : (p : FieldsPairing s₁ s₂ t₁ t₂ r₁ r₂) → failing required p fields ≡ failing required p p.old.fields
+  pub ahead : FieldsLeft s₂ t₂ (Some r₂) c fields
+  pub stays : (p : FieldsPairing s₁ s₂ t₁ t₂ r₁ (Some r₂)) → failing required p fields ≡ failing required p p.old.fields
 
-module _ {s₁ s₂ t₁ t₂ : List ℕ} {r₁ r₂ : ℕ} {required : Bool} where
-  pub failing_absent : r₂ ≡ 0 → FieldsFailing s₁ s₂ t₁ t₂ r₁ r₂ required 0
-  failing_absent e = record { tells = λ p. rw (fields_none e p.old) refl }
+module _ {s₁ s₂ t₁ t₂ : List ℕ} {r₁ : ℕ} {required : Bool} where
+  pub failing_absent : FieldsFailing s₁ s₂ t₁ t₂ r₁ None required None
+  failing_absent = record { tells = λ p. rw (fields_none p.old) tt }
 
-  pub failing_start : (p : FieldsPairing s₁ s₂ t₁ t₂ r₁ r₂) → 0 < r₂ → {left : ℕ} → left ≡ word t₂ r₂ 3 → InFields s₁ s₂ t₁ t₂ r₁ r₂ required (r₂ + 1) left
-  failing_start p l e = record {
+module _ {s₁ s₂ t₁ t₂ : List ℕ} {r₁ r₂ : ℕ} {required : Bool} {c : Children 1} where
+  pub failing_start : (p : FieldsPairing s₁ s₂ t₁ t₂ r₁ (Some r₂)) → Begins t₂ r₂ c → InFields s₁ s₂ t₁ t₂ r₁ r₂ required c
+  failing_start p b = record {
     given = p;
-    present = l;
-    past = omega arith;
+    past = omega (arith, b.row);
     fields = p.old.fields;
-    ahead = fields_start p.old l e;
+    ahead = fields_start p.old b;
     stays = λ q. ap (failing required q) (same_fields p.old q.old);
   }
 
-  module _ {here left : ℕ} (a : InFields s₁ s₂ t₁ t₂ r₁ r₂ required here left) where
-    pub failing_end : left ≤ 0 → FieldsFailing s₁ s₂ t₁ t₂ r₁ r₂ required 0
-    failing_end l = record { tells = λ p. subst (Fails s₂ t₂ r₂ 0) (rw (fields_end a.ahead l) at (a.stays p)) refl }
+  module _ (a : InFields s₁ s₂ t₁ t₂ r₁ r₂ required c) where
+    pub failing_end : c.left ≡ 0 → FieldsFailing s₁ s₂ t₁ t₂ r₁ (Some r₂) required None
+    failing_end l = record { tells = λ p. subst (Fails s₂ t₂ (Some r₂) None) (rw (fields_end a.ahead l) at (a.stays p)) tt }
 
-    module _ (l : 0 < left) where
-      abbrev field : FieldHere s₂ t₂ r₂ here left a.fields
-      field = field_here a.ahead l
+    module _ {row : ℕ} {d : Children 1} (p : Passes c row d) where
+      abbrev field : FieldHere s₂ t₂ (Some r₂) row d a.fields
+      field = field_here a.ahead p
 
-      field_at : FieldAt s₂ t₂ r₂ here (name_of s₂ (word t₂ here 1) (word t₂ here 2)) (bare field.row.definition)
+      field_at : FieldAt s₂ t₂ r₂ row (name_of s₂ (word t₂ row 1) (word t₂ row 2)) (bare field.row.definition)
       field_at = record { name = field.name; quoted = field.quoted; is = refl; value = field.row; defines = refl; less = field.less }
 
-      abbrev with_new : DefinedRow s₁ t₁ r₁ → FieldPairing s₁ s₂ t₁ t₂ r₁ here
-      with_new d = record { new = d; name = field.name; quoted = field.quoted; old = field.row }
+      abbrev with_new : DefinedRow s₁ t₁ r₁ → FieldPairing s₁ s₂ t₁ t₂ r₁ row
+      with_new n = record { new = n; name = field.name; quoted = field.quoted; old = field.row }
 
-      pub field_pair : FieldPairing s₁ s₂ t₁ t₂ r₁ here
+      pub field_pair : FieldPairing s₁ s₂ t₁ t₂ r₁ row
       field_pair = with_new a.given.new
 
-      pub field_less : word t₂ (here + 1) 4 < part_rows t₂ r₂
-      field_less = omega (arith, field.less, part_rows_lem t₂ r₂ a.present)
+      pub field_less : word t₂ (row + 1) 4 < word t₂ r₂ 4
+      field_less = field.less
 
-      module _ {b : Bool} (h : FieldDecided s₁ s₂ t₁ t₂ r₁ here required b) where
-        -- this field where it fails, and else the first of those behind it
-        all_fields : (p : FieldsPairing s₁ s₂ t₁ t₂ r₁ r₂)
-            → cond b (failing required p field.others) (some (name_of s₂ (word t₂ here 1) (word t₂ here 2), bare field.row.definition))
-            ≡ failing required p p.old.fields
-        all_fields p = rw (h.tells (with_new p.new)) (sym (ap (first_failing required (bare p.new.definition)) field.is) ∙ a.stays p)
+      -- this field where it fails, and else the first of those behind it
+      all_fields : {b : Bool} → FieldDecided s₁ s₂ t₁ t₂ r₁ row required b → (q : FieldsPairing s₁ s₂ t₁ t₂ r₁ (Some r₂))
+          → cond b (failing required q field.others) (Some (name_of s₂ (word t₂ row 1) (word t₂ row 2), bare field.row.definition))
+          ≡ failing required q q.old.fields
+      all_fields h q = rw (h.tells (with_new q.new)) (sym (ap (first_failing required (bare q.new.definition)) field.is) ∙ a.stays q)
 
-        pub field_fails : b ≡ false → FieldsFailing s₁ s₂ t₁ t₂ r₁ r₂ required here
-        field_fails e = record { tells = λ p. subst (Fails s₂ t₂ r₂ here) (rw e at (all_fields p)) (a.past, field_at) }
+      pub field_fails : FieldDecided s₁ s₂ t₁ t₂ r₁ row required false → FieldsFailing s₁ s₂ t₁ t₂ r₁ (Some r₂) required (Some row)
+      field_fails h = record { tells = λ q. subst (Fails s₂ t₂ (Some r₂) (Some row)) (all_fields h q) (omega (arith, a.past, p.is), field_at) }
 
-        pub field_next : b ≡ true → {x : Record} → Reads t₂ (here + 1) x → InFields s₁ s₂ t₁ t₂ r₁ r₂ required x.next (left - 1)
-        field_next e p = record {
-          given = a.given;
-          present = a.present;
-          past = omega (arith, p.next);
-          fields = field.others;
-          ahead = field.behind p;
-          stays = λ q. (rw e at (all_fields q));
-        }
-
--- the same where what the new definition has under each name was found before, in vs: i fields of `count` are compared
-pub record InWide (s₁ s₂ t₁ t₂ : List ℕ) (r₁ r₂ : ℕ) (required : Bool) (vs : List ℕ) (count i here : ℕ) : Type 0 where
-  pub few : count ≤ most_names
-  pub left : ℕ
-  pub counts : i + left ≡ count
-  pub ahead : InFields s₁ s₂ t₁ t₂ r₁ r₂ required here left
-  pub matched : Answers (λ n v. FindsUnder s₁ t₁ r₁ n required v) s₂ ahead.ahead.rest vs i left
-
-module _ {s₁ s₂ t₁ t₂ : List ℕ} {r₁ r₂ : ℕ} {required : Bool} {vs : List ℕ} {count : ℕ} where
-  pub wide_start : (p : FieldsPairing s₁ s₂ t₁ t₂ r₁ r₂) → 0 < r₂ → count ≡ word t₂ r₂ 3 → count ≤ most_names → MatchesUnder s₁ t₁ r₁ s₂ t₂ r₂ required vs
-      → InWide s₁ s₂ t₁ t₂ r₁ r₂ required vs count 0 (r₂ + 1)
-  unfolding failing_start
-  wide_start p l e few m =
-      let o = part_object p.old.part l in
-      let c = (members_start o e).counts in
-      record { few = few; left = count; counts = omega arith; ahead = failing_start p l e; matched = answers_start (λ j h. m.tells o j (omega arith)) }
-
-  module _ {i here : ℕ} (a : InWide s₁ s₂ t₁ t₂ r₁ r₂ required vs count i here) where
-    pub wide_end : count ≤ i → FieldsFailing s₁ s₂ t₁ t₂ r₁ r₂ required 0
-    wide_end l = failing_end a.ahead (omega arith)
-
-    module _ (l : i < count) where
-      pub wide_some : 0 < a.left
-      wide_some = omega arith
-
-      abbrev member : MemberHere s₂ t₂ here a.ahead.ahead.rest
-      member = member_here a.ahead.ahead.ahead wide_some
-
-      pub wide_found : FindsUnder s₁ t₁ r₁ (name_of s₂ (word t₂ here 1) (word t₂ here 2)) required (get_or vs i 0)
-      wide_found = answers_here a.matched member wide_some
-
-      pub wide_next : {b : Bool} → FieldDecided s₁ s₂ t₁ t₂ r₁ here required b → b ≡ true → {x : Record} → Reads t₂ (here + 1) x
-          → InWide s₁ s₂ t₁ t₂ r₁ r₂ required vs count (i + 1) x.next
-      unfolding field_next
-      wide_next h e p = record {
-        few = a.few;
-        left = a.left - 1;
-        counts = omega arith;
-        ahead = field_next a.ahead wide_some h e p;
-        matched = answers_next a.matched member;
+      pub field_next : FieldDecided s₁ s₂ t₁ t₂ r₁ row required true → InFields s₁ s₂ t₁ t₂ r₁ r₂ required d
+      field_next h = record {
+        given = a.given;
+        past = omega (arith, a.past, p.row);
+        fields = field.others;
+        ahead = field.behind;
+        stays = all_fields h;
       }
+
+-- the same where what the new definition has under each name was found before, in vs: i fields are compared
+pub record InWide (s₁ s₂ t₁ t₂ : List ℕ) (r₁ r₂ : ℕ) (required : Bool) (vs : List (Option ℕ)) (i : ℕ) (c : Children 1) : Type 0 where
+  pub few : i + c.left ≤ most_names
+  pub ahead : InFields s₁ s₂ t₁ t₂ r₁ r₂ required c
+  pub matched : Answers (λ n v. FindsUnder s₁ t₁ r₁ n required v) s₂ ahead.ahead.rest vs i c.left
+
+module _ {s₁ s₂ t₁ t₂ : List ℕ} {r₁ r₂ : ℕ} {required : Bool} {vs : List (Option ℕ)} {c : Children 1} where
+  pub wide_start : (p : FieldsPairing s₁ s₂ t₁ t₂ r₁ (Some r₂)) → Begins t₂ r₂ c → word t₂ r₂ 3 ≤ most_names → MatchesUnder s₁ t₁ r₁ s₂ t₂ r₂ required vs
+      → InWide s₁ s₂ t₁ t₂ r₁ r₂ required vs 0 c
+  unfolding failing_start
+  wide_start p b few m =
+      let o = part_object p.old.part refl in
+      let n = (members_start o b.left).counts in
+      record {
+        few = omega (arith, b.left);
+        ahead = failing_start p b;
+        matched = answers_start (λ j h. m.tells o j (omega arith));
+      }
+
+  module _ {i : ℕ} (a : InWide s₁ s₂ t₁ t₂ r₁ r₂ required vs i c) {row : ℕ} {d : Children 1} (p : Passes c row d) where
+    abbrev member : MemberHere s₂ t₂ row a.ahead.ahead.rest
+    member = name_here a.ahead.ahead.ahead p
+
+    pub wide_found : FindsUnder s₁ t₁ r₁ (name_of s₂ (word t₂ row 1) (word t₂ row 2)) required (found_at vs i)
+    wide_found = answers_here a.matched p member
+
+    pub wide_next : FieldDecided s₁ s₂ t₁ t₂ r₁ row required true → InWide s₁ s₂ t₁ t₂ r₁ r₂ required vs (i + 1) d
+    unfolding field_next
+    wide_next h = record {
+      few = omega (arith, a.few, p.some, p.left);
+      ahead = field_next a.ahead p h;
+      matched = answers_next a.matched p member;
+    }
 
 -- ---- one field: v was found for its name in the new definition
 
-module _ {s₁ s₂ t₁ t₂ : List ℕ} {r₁ r₂ : ℕ} {required : Bool} {v : ℕ} (f : FindsUnder s₁ t₁ r₁ (name_of s₂ (word t₂ r₂ 1) (word t₂ r₂ 2)) required v) where
-  -- what the new definition has under the name
-  abbrev has : FieldPairing s₁ s₂ t₁ t₂ r₁ r₂ → Option Def
-  has p = definition_under required (bare p.new.definition) (name_of s₂ (word t₂ r₂ 1) (word t₂ r₂ 2))
+-- what the new definition has under the name
+abbrev has : {s₁ s₂ t₁ t₂ : List ℕ} {r₁ r₂ : ℕ} → Bool → FieldPairing s₁ s₂ t₁ t₂ r₁ r₂ → Option Def
+has {s₂ = s₂} {t₂ = t₂} {r₂ = r₂} required p = definition_under required (bare p.new.definition) (name_of s₂ (word t₂ r₂ 1) (word t₂ r₂ 2))
 
-  gives : (p : FieldPairing s₁ s₂ t₁ t₂ r₁ r₂) → Gives s₁ t₁ v (has p)
-  gives p = f.tells p.new
+module _ {s₁ s₂ t₁ t₂ : List ℕ} {r₁ r₂ v : ℕ} {required : Bool}
+    (f : FindsUnder s₁ t₁ r₁ (name_of s₂ (word t₂ r₂ 1) (word t₂ r₂ 2)) required (Some v)) where
+  pub found_pair : FieldPairing s₁ s₂ t₁ t₂ r₁ r₂ → Pairing s₁ s₂ t₁ t₂ v (r₂ + 1)
+  found_pair p = record { new = go (has required p) (f.tells p.new); old = p.old }
+    where
+      go : (o : Option Def) → Gives s₁ t₁ (Some v) o → DefinedRow s₁ t₁ v
+      go None g = absurd g
+      go (Some d) g = g.1
 
-  module _ (l : 0 < v) where
-    pub found_pair : FieldPairing s₁ s₂ t₁ t₂ r₁ r₂ → Pairing s₁ s₂ t₁ t₂ v (r₂ + 1)
-    found_pair p = record { new = go (has p) (gives p); old = p.old }
-      where
-        go : (o : Option Def) → Gives s₁ t₁ v o → DefinedRow s₁ t₁ v
-        go none g = absurd (omega arith)
-        go (some d) g = g.1
-
-    pub field_carried : {b : Bool} → Decided s₁ s₂ t₁ t₂ v (r₂ + 1) b → FieldDecided s₁ s₂ t₁ t₂ r₁ r₂ required b
-    field_carried {b} h = record { tells = λ p. go p (has p) (gives p) }
-      where
-        go : (p : FieldPairing s₁ s₂ t₁ t₂ r₁ r₂) (o : Option Def) → Gives s₁ t₁ v o → b ≡ field_subtype required o (bare p.old.definition)
-        go p none g = absurd (omega arith)
-        go p (some d) g = h.tells (record { new = g.1; old = p.old }) ∙ ap (λ (d : Def). subtype d (bare p.old.definition)) g.2
-
-  module _ (l : v ≤ 0) where
-    -- it has none
-    without : (p : FieldPairing s₁ s₂ t₁ t₂ r₁ r₂) {b : Bool} → required ≡ b
-        → cond b false (subtype (named JSON) (bare p.old.definition)) ≡ field_subtype required (has p) (bare p.old.definition)
-    without p e = rw (← e) (go (has p) (gives p))
-      where
-        go : (o : Option Def) → Gives s₁ t₁ v o
-            → cond required false (subtype (named JSON) (bare p.old.definition)) ≡ field_subtype required o (bare p.old.definition)
-        go none g = refl
-        go (some d) g = absurd (omega arith)
-
-    pub field_missing : required ≡ true → FieldDecided s₁ s₂ t₁ t₂ r₁ r₂ required false
-    field_missing e = record { tells = λ p. without p e }
-
-    pub field_json : required ≡ false → {b : Bool} → IsJsonRow s₂ t₂ (r₂ + 1) b → FieldDecided s₁ s₂ t₁ t₂ r₁ r₂ required b
-    field_json e h = record { tells = λ p. h.tells p.old ∙ without p e }
+  pub field_carried : {b : Bool} → Decided s₁ s₂ t₁ t₂ v (r₂ + 1) b → FieldDecided s₁ s₂ t₁ t₂ r₁ r₂ required b
+  field_carried {b} h = record { tells = λ p. go p (has required p) (f.tells p.new) }
+    where
+      go : (p : FieldPairing s₁ s₂ t₁ t₂ r₁ r₂) (o : Option Def) → Gives s₁ t₁ (Some v) o → b ≡ field_subtype required o (bare p.old.definition)
+      go p None g = absurd g
+      go p (Some d) g = h.tells (record { new = g.1; old = p.old }) ∙ ap (λ (d : Def). subtype d (bare p.old.definition)) g.2

@@ -4,8 +4,9 @@ use mathlib.Core.Path.{◌≡◌, refl, sym, ap, ap₂, ◌∙◌}
 use mathlib.Core.Bool.{Bool, true, false}
 use mathlib.Core.Logic.{inl, inr}
 use mathlib.Core.List.{List}
-use native.Mathlib.Omega.{arith}
 use lib.ListN.{length}
+use Rattle.std.specs.Prelude.{Ok, Err}
+use Rattle.model.proofs.Basics.{never}
 use Rattle.model.specs.Value.{IsJson}
 use Rattle.model.specs.Definition.{Def}
 use Rattle.model.specs.Subtype.{subtype}
@@ -15,7 +16,7 @@ use Rattle.syntax.specs.Spelling.{value_of}
 use Rattle.syntax.specs.declared.answers.Answer.{Answer}
 use Rattle.syntax.proofs.Theorems.{read_json}
 use Rattle.definitions.specs.Definitions.{Located, bare}
-use Rattle.definitions.specs.Accepting.{read_schema, Accepted, not_accepted, accepted, accept_answer, accept}
+use Rattle.definitions.specs.Accepting.{read_schema, Accepted, not_accepted, accepted, accept_result, accept}
 use Rattle.comparison.specs.Comparing.{Schema, Compared, Answers, Compares, compare_table}
 use Rattle.definitions.specs.Shapes.{DefinedRow}
 use Rattle.comparison.specs.Carrying.{Pairing, Decided}
@@ -60,19 +61,19 @@ record Accepts (which w : ℕ) (s : List ℕ) : Type 0 where
   takes : Takes w s definition
   only : (d : Located) → Takes w s d → definition ≡ d
 
-module _ {which w : ℕ} {s : List ℕ} {a : Answer} (q : a ≡ accept_answer (accept which w s)) where
-  refused : (a.code ≡ 0 → ⊥) → Refused which w s a
-  refused n = go (accept which w s) refl q (accept_way which w s)
+module _ (which w : ℕ) (s : List ℕ) where
+  refused : {a : Answer} → Err a ≡ accept_result (accept which w s) → Refused which w s a
+  refused {a} q = go (accept which w s) refl q (accept_way which w s)
     where
-      go : (x : Accepted) → accept which w s ≡ x → a ≡ accept_answer x → Way which w s x → Refused which w s a
-      go (not_accepted b) i e h = record { is = i ∙ ap not_accepted (sym e); none = λ d y. (let k = schema_takes y in h.1 k.0 k.1) }
-      go (accepted d) i e h = absurd (n (ap (λ (b : Answer). b.code) e))
+      go : (x : Accepted) → accept which w s ≡ x → Err a ≡ accept_result x → Way which w s x → Refused which w s a
+      go (not_accepted b) i e h = let z : b ≡ a = cc in record { is = i ∙ ap not_accepted z; none = λ d y. (let k = schema_takes y in h.1 k.0 k.1) }
+      go (accepted d) i e h = never (cc)
 
-  accepted-as : a.code ≡ 0 → Accepts which w s
-  accepted-as z = go (accept which w s) refl q (accept_way which w s)
+  accepted-as : {u : Unit {0}} → Ok u ≡ accept_result (accept which w s) → Accepts which w s
+  accepted-as {u} q = go (accept which w s) refl q (accept_way which w s)
     where
-      go : (x : Accepted) → accept which w s ≡ x → a ≡ accept_answer x → Way which w s x → Accepts which w s
-      go (not_accepted b) i e h = absurd (omega (arith, h.0, ap (λ (b : Answer). b.code) e))
+      go : (x : Accepted) → accept which w s ≡ x → Ok u ≡ accept_result x → Way which w s x → Accepts which w s
+      go (not_accepted b) i e h = never (cc)
       go (accepted d) i e h = record { definition = d; is = i; takes = h.0; only = h.1 }
 
 schema_json : {w : ℕ} {s : List ℕ} {d : Def} (h : Schema w s d) → IsJson (value_of s h.tree)
@@ -87,86 +88,72 @@ accepts_row {s = s} t a =
 
 -- ---- both schemas
 
--- what Compare promises of an answer and of the tables
-abbrev Promised : List ℕ → List ℕ → List ℕ → List ℕ → Answer → List ℕ → List ℕ → Type 0
-Promised s₁ s₂ t₁ t₂ r u₁ u₂ =
-    Compares (length t₁) (length t₂) s₁ s₂ r × ((u₁ ≡ table_of t₁ (read_schema s₁)) × (u₂ ≡ compare_table (length t₁) t₂ s₁ s₂))
+module _ (s₁ s₂ t₁ t₂ : List ℕ) where
+  -- a is the answer on the new one
+  module _ {a : Answer} (q : Err a ≡ accept_result (accept 1 (length t₁) s₁)) where
+    pub new_refused : Compares (length t₁) (length t₂) s₁ s₂ a
+    new_refused = let f = refused 1 (length t₁) s₁ q in record { answers = rw f.is refl; compares = λ d e y z. absurd (f.none d y) }
 
--- a is the answer on the new one, and u₁ its table then
-pub new_refused : (s₁ s₂ t₁ t₂ : List ℕ) {a : Answer} {u₁ : List ℕ} → a ≡ accept_answer (accept 1 (length t₁) s₁) → u₁ ≡ table_of t₁ (read_schema s₁)
-    → (a.code ≡ 0 → ⊥) → Promised s₁ s₂ t₁ t₂ a u₁ t₂
-unfolding compare_table
-new_refused s₁ s₂ t₁ t₂ {a} q x n =
-    let f = refused q n in
-    let i : accept 1 (length t₁) s₁ ≡ not_accepted a = f.is in
-    (record { answers = rw i refl; compares = λ d e y z. absurd (f.none d y) }, (x, rw i refl))
+    -- so the old one's table is as found
+    pub old_unread : t₂ ≡ compare_table (length t₁) t₂ s₁ s₂
+    unfolding compare_table
+    old_unread = rw (refused 1 (length t₁) s₁ q).is refl
 
--- the new one is accepted
-pub record NewAccepted (s₁ t₁ u₁ : List ℕ) : Type 0 where
-  accepts : Accepts 1 (length t₁) s₁
-  pub rows : u₁ ≡ table_of t₁ (read_schema s₁)
+  -- the new one is accepted
+  module _ {x : Unit {0}} (q : Ok x ≡ accept_result (accept 1 (length t₁) s₁)) where
+    new_taken : Accepts 1 (length t₁) s₁
+    new_taken = accepted-as 1 (length t₁) s₁ q
 
-pub new_accepted : (s₁ t₁ : List ℕ) {a : Answer} {u₁ : List ℕ} → a ≡ accept_answer (accept 1 (length t₁) s₁) → u₁ ≡ table_of t₁ (read_schema s₁)
-    → a.code ≡ 0 → NewAccepted s₁ t₁ u₁
-new_accepted s₁ t₁ q x z = record { accepts = accepted-as q z; rows = x }
+    -- so the old one was reached, and u₂ is its table then
+    pub old_read : {u₂ : List ℕ} → u₂ ≡ table_of t₂ (read_schema s₂) → u₂ ≡ compare_table (length t₁) t₂ s₁ s₂
+    unfolding compare_table
+    old_read y = rw new_taken.is y
 
--- so the old one was reached, and u₂ is its table then
-old_table_lem : {s₁ t₁ u₁ : List ℕ} (s₂ t₂ : List ℕ) {u₂ : List ℕ} → NewAccepted s₁ t₁ u₁ → u₂ ≡ table_of t₂ (read_schema s₂) → u₂ ≡ compare_table (length t₁) t₂ s₁ s₂
-unfolding compare_table
-old_table_lem s₂ t₂ n y = rw n.accepts.is y
+    pub old_refused : {a : Answer} → Err a ≡ accept_result (accept 2 (length t₂) s₂) → Compares (length t₁) (length t₂) s₁ s₂ a
+    old_refused r =
+        let f = refused 2 (length t₂) s₂ r in
+        record { answers = rw (new_taken.is, f.is) refl; compares = λ d e v w. absurd (f.none e w) }
 
-pub old_refused : {s₁ t₁ u₁ : List ℕ} (s₂ t₂ : List ℕ) {b : Answer} {u₂ : List ℕ} (n : NewAccepted s₁ t₁ u₁) → b ≡ accept_answer (accept 2 (length t₂) s₂)
-    → u₂ ≡ table_of t₂ (read_schema s₂) → (b.code ≡ 0 → ⊥) → Promised s₁ s₂ t₁ t₂ b u₁ u₂
-old_refused s₂ t₂ {b} n r y z =
-    let f = refused r z in
-    let i : accept 2 (length t₂) s₂ ≡ not_accepted b = f.is in
-    (record { answers = rw (n.accepts.is, i) refl; compares = λ d e v w. absurd (f.none e w) }, (n.rows, old_table_lem s₂ t₂ n y))
+    -- both are accepted, and their tables are u₁ and u₂
+    module _ {u₁ : List ℕ} (y : u₁ ≡ table_of t₁ (read_schema s₁)) {v : Unit {0}} (r : Ok v ≡ accept_result (accept 2 (length t₂) s₂))
+        {u₂ : List ℕ} (z : u₂ ≡ table_of t₂ (read_schema s₂)) where
+      old_taken : Accepts 2 (length t₂) s₂
+      old_taken = accepted-as 2 (length t₂) s₂ r
 
--- both are accepted
-pub record BothAccepted (s₁ s₂ t₁ t₂ u₁ u₂ : List ℕ) : Type 0 where
-  new : NewAccepted s₁ t₁ u₁
-  accepts : Accepts 2 (length t₂) s₂
-  rows : u₂ ≡ table_of t₂ (read_schema s₂)
+      abbrev new_definition : Def
+      new_definition = bare new_taken.definition
 
-pub both_accepted : {s₁ t₁ u₁ : List ℕ} (s₂ t₂ : List ℕ) {b : Answer} {u₂ : List ℕ} → NewAccepted s₁ t₁ u₁ → b ≡ accept_answer (accept 2 (length t₂) s₂)
-    → u₂ ≡ table_of t₂ (read_schema s₂) → b.code ≡ 0 → BothAccepted s₁ s₂ t₁ t₂ u₁ u₂
-both_accepted s₂ t₂ n r y z = record { new = n; accepts = accepted-as r z; rows = y }
+      abbrev old_definition : Def
+      old_definition = bare old_taken.definition
 
-module _ {s₁ s₂ t₁ t₂ u₁ u₂ : List ℕ} (h : BothAccepted s₁ s₂ t₁ t₂ u₁ u₂) where
-  abbrev new_definition : Def
-  new_definition = bare h.new.accepts.definition
+      pair : Pairing s₁ s₂ (table_of t₁ (read_schema s₁)) (table_of t₂ (read_schema s₂)) 0 0
+      pair = record { new = accepts_row t₁ new_taken; old = accepts_row t₂ old_taken }
 
-  abbrev old_definition : Def
-  old_definition = bare h.accepts.definition
+      pub compare_pair : Pairing s₁ s₂ u₁ u₂ 0 0
+      compare_pair = rw (y, z) pair
 
-  pair : Pairing s₁ s₂ (table_of t₁ (read_schema s₁)) (table_of t₂ (read_schema s₂)) 0 0
-  pair = record { new = accepts_row t₁ h.new.accepts; old = accepts_row t₂ h.accepts }
+      -- c is whether the new definition is carried to the old one
+      module _ {c : Bool} (k : Decided s₁ s₂ u₁ u₂ 0 0 c) where
+        told : c ≡ subtype new_definition old_definition
+        unfolding pair
+        told = (rw (y, z) at k).tells pair
 
-  pub compare_pair : Pairing s₁ s₂ u₁ u₂ 0 0
-  compare_pair = rw (h.new.rows, h.rows) pair
+        -- the decision on the definitions of both schemas
+        decides : (d e : Def) → Schema (length t₁) s₁ d → Schema (length t₂) s₂ e → (subtype d e ≡ c) × Decides d e
+        decides d e f g =
+            let m = schema_takes f in
+            let n = schema_takes g in
+            let i : new_definition ≡ d = ap bare (new_taken.only m.0 m.1) ∙ m.2 in
+            let j : old_definition ≡ e = ap bare (old_taken.only n.0 n.1) ∙ n.2 in
+            (sym (told ∙ ap₂ subtype i j), decided (value_of s₁ f.tree) (value_of s₂ g.tree) (schema_json f) (schema_json g) d e f.defines g.defines)
 
-  -- c is whether the new definition is carried to the old one
-  module _ {c : Bool} (k : Decided s₁ s₂ u₁ u₂ 0 0 c) where
-    told : c ≡ subtype new_definition old_definition
-    unfolding pair
-    told = (rw (h.new.rows, h.rows) at k).tells pair
+        promised : {a : Answer} → ((d e : Def) → Schema (length t₁) s₁ d → Schema (length t₂) s₂ e → Compared d e a) → Compares (length t₁) (length t₂) s₁ s₂ a
+        promised f =
+            let h = f new_definition old_definition (takes_schema new_taken.takes) (takes_schema old_taken.takes) in
+            record { answers = rw (new_taken.is, old_taken.is) h; compares = f }
 
-    -- the decision on the definitions of both schemas
-    decides : (d e : Def) → Schema (length t₁) s₁ d → Schema (length t₂) s₂ e → (subtype d e ≡ c) × Decides d e
-    decides d e f g =
-        let m = schema_takes f in
-        let n = schema_takes g in
-        let x : new_definition ≡ d = ap bare (h.new.accepts.only m.0 m.1) ∙ m.2 in
-        let y : old_definition ≡ e = ap bare (h.accepts.only n.0 n.1) ∙ n.2 in
-        (sym (told ∙ ap₂ subtype x y), decided (value_of s₁ f.tree) (value_of s₂ g.tree) (schema_json f) (schema_json g) d e f.defines g.defines)
+      pub compare_carried : Decided s₁ s₂ u₁ u₂ 0 0 true → {a : Answer} → a ≡ answer 0 0 0 0 → Compares (length t₁) (length t₂) s₁ s₂ a
+      compare_carried k i = promised k (λ d e f g. (let m = decides k d e f g in inl (i, m.1.carried m.0)))
 
-    promised : {r : Answer} → ((d e : Def) → Schema (length t₁) s₁ d → Schema (length t₂) s₂ e → Compared d e r) → Promised s₁ s₂ t₁ t₂ r u₁ u₂
-    promised f =
-        let k = f new_definition old_definition (takes_schema h.new.accepts.takes) (takes_schema h.accepts.takes) in
-        (record { answers = rw (h.new.accepts.is, h.accepts.is) k; compares = f }, (h.new.rows, old_table_lem s₂ t₂ h.new h.rows))
-
-    pub compare_carried : {r : Answer} → c ≡ true → r ≡ answer 0 0 0 0 → Promised s₁ s₂ t₁ t₂ r u₁ u₂
-    compare_carried z i = promised (λ d e f g. (let m = decides d e f g in inl (i, m.1.carried (m.0 ∙ z))))
-
-    pub compare_not_carried : {r : Answer} → c ≡ false → r ≡ answer 30 0 0 0 → Promised s₁ s₂ t₁ t₂ r u₁ u₂
-    compare_not_carried z i = promised (λ d e f g. (let m = decides d e f g in inr (i, m.1.not_carried (m.0 ∙ z))))
+      pub compare_not_carried : Decided s₁ s₂ u₁ u₂ 0 0 false → {a : Answer} → a ≡ answer 30 0 0 0 → Compares (length t₁) (length t₂) s₁ s₂ a
+      compare_not_carried k i = promised k (λ d e f g. (let m = decides k d e f g in inr (i, m.1.not_carried m.0)))

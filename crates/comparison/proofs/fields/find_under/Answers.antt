@@ -1,27 +1,16 @@
 -- `find_under` meets its contract: each generic type.
 use native.Mathlib.Omega.{arith}
-use Rattle.definitions.proofs.Facts.{as_kind}
-use Rattle.comparison.proofs.fields.Laws.{map_inside, under_array, under_name, under_map_required, under_map}
+use Rattle.comparison.proofs.fields.Laws.{map_inside, under_array, under_name, under_map}
 use Rattle.comparison.proofs.fields.find_under.Goals as goal
 
-pub returns-then-required : goal.returns-then-required
-returns-then-required c = under_map_required c.generic_at.ensures c.in-Map.is c.if-required.true
+pub overflow_add-row : goal.overflow_add-row
+overflow_add-row c = omega (arith, (map_inside (rw c.in-Some-Map.field-0-is at c.in-Some-Map.ensures) c.requires).here)
 
-pub overflow_add-result : goal.overflow_add-result
-overflow_add-result c = omega (arith, (map_inside c.generic_at.ensures c.in-Map.is c.requires).here)
+pub returns-in-Some-Map : goal.returns-in-Some-Map
+returns-in-Some-Map c = under_map (rw c.in-Some-Map.field-0-is at c.in-Some-Map.ensures) c.then_some.ensures
 
-pub find_in_object-requires : goal.find_in_object-requires
-find_in_object-requires c =
-    record {
-      defined_row = c.requires;
-      generic_row = as_kind c.generic_at.ensures c.in-Object.is;
-    }
+pub returns-in-Some-Array : goal.returns-in-Some-Array
+returns-in-Some-Array c = under_array (rw c.in-Some-Array.field-0-is at c.in-Some-Array.ensures)
 
-pub returns-in-Array : goal.returns-in-Array
-returns-in-Array c = under_array c.generic_at.ensures c.in-Array.is
-
-pub returns-else-required : goal.returns-else-required
-returns-else-required c = under_map c.generic_at.ensures c.in-Map.is c.if-required.false
-
-pub returns-in-Other : goal.returns-in-Other
-returns-in-Other c = under_name c.generic_at.ensures c.in-Other.is
+pub returns-in-None : goal.returns-in-None
+returns-in-None c = under_name (rw c.in-None.is at c.generic_at.ensures)

@@ -12,14 +12,11 @@ find-requires c = object_body c.requires.generic_row c.requires.defined_row
 pub wide_part-requires : goal.wide_part-requires
 wide_part-requires c = required_fields c.requires.generic_row (find_required c.find.ensures) c.requires.defined_row
 
-pub returns-then-wide_part : goal.returns-then-wide_part
-returns-then-wide_part c = λ _. c.wide_part.ensures c.if-wide_part.true
+pub overflow_add-row-else-wide_part : goal.overflow_add-row-else-wide_part
+overflow_add-row-else-wide_part c = omega (arith, (body_in c.requires.generic_row c.requires.defined_row).here)
 
-pub overflow_add-row-2 : goal.overflow_add-row-2
-overflow_add-row-2 c = omega (arith, (body_in c.requires.generic_row c.requires.defined_row).here)
+pub find-requires-else-wide_part : goal.find-requires-else-wide_part
+find-requires-else-wide_part c = object_body c.requires.generic_row c.requires.defined_row
 
-pub find-requires-2 : goal.find-requires-2
-find-requires-2 c = object_body c.requires.generic_row c.requires.defined_row
-
-pub wide_part-requires-2 : goal.wide_part-requires-2
-wide_part-requires-2 c = optional_fields c.requires.generic_row (find_optional c.find-2.ensures) c.requires.defined_row
+pub wide_part-requires-else-wide_part : goal.wide_part-requires-else-wide_part
+wide_part-requires-else-wide_part c = optional_fields c.requires.generic_row (find_optional c.find-else-wide_part.ensures) c.requires.defined_row
