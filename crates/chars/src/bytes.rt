@@ -4,13 +4,7 @@ ghost use Rattle.chars.specs.Bytes.{byte_at, code_of, digit, escape_of, lowest, 
 
 use crate::refusals::Code;
 
-pub fn wide(b: u8) -> u32
-    ensures { result ≡ b }
-{
-    b as u32
-}
-
-// The byte at a place, and 0 behind the last.
+// The byte at a place, and 0 behind the last: `byte_at`, by which the grammar is written, says so.
 pub fn peek(text: &[u8], at: usize) -> u8
     ensures { result ≡ byte_at text.now at }
 {
@@ -91,7 +85,7 @@ pub fn six_bits(b: u8, lo: u8, hi: u8) -> Option<u32>
     ensures small { IfSome result (λ v. v < 0x80) }
 {
     if (lo..=hi).contains(&b) {
-        Some(wide(b) - 0x80)
+        Some(u32::from(b) - 0x80)
     } else {
         None
     }

@@ -2,7 +2,7 @@
 ghost use Rattle.std.specs.Prelude.{◌≡◌, ◌+◌, ◌≤◌, ◌<◌, length};
 ghost use Rattle.chars.specs.Characters.{refusal_at, wrong, hex_pair, partner_at, rest_at, unicode_at, escape_at, two_at, three_at, four_at, char_at, character_at};
 
-use crate::bytes::{code_of, digit_at, escape_of, highest, lowest, peek, six_at, wide};
+use crate::bytes::{code_of, digit_at, escape_of, highest, lowest, peek, six_at};
 use crate::plain::is_plain;
 use crate::refusals::{Code, Reading, Refusal};
 
@@ -76,7 +76,7 @@ fn partner(text: &[u8], at: usize, high: u32) -> Reading<Step>
         return Err(refusal_at(text, at + 3, Code::LoneSurrogate));
     };
     let l = hex_pair(text, at + 4)?;
-    let low = 256 * (0xd0 + wide(d)) + l as u32;
+    let low = 256 * (0xd0 + u32::from(d)) + l as u32;
     Ok(Step::Char {
         value: 0x10000 + 0x400 * (high - 0xd800) + (low - 0xdc00),
         next: at + 6,
@@ -130,7 +130,7 @@ fn escape(text: &[u8], at: usize) -> Reading<Step>
         return Err(wrong(text, at + 1));
     };
     Ok(Step::Char {
-        value: wide(value),
+        value: u32::from(value),
         next: at + 2,
     })
 }
@@ -145,7 +145,7 @@ fn two(text: &[u8], at: usize, b: u8) -> Reading<Step>
         return Err(refusal_at(text, at + 1, Code::NotUtf8));
     };
     Ok(Step::Char {
-        value: 64 * (wide(b) - 0xc0) + c,
+        value: 64 * (u32::from(b) - 0xc0) + c,
         next: at + 2,
     })
 }
@@ -162,7 +162,7 @@ fn three(text: &[u8], at: usize, b: u8) -> Reading<Step>
         return Err(refusal_at(text, at + 2, Code::NotUtf8));
     };
     Ok(Step::Char {
-        value: 4096 * (wide(b) - 0xe0) + 64 * c + d,
+        value: 4096 * (u32::from(b) - 0xe0) + 64 * c + d,
         next: at + 3,
     })
 }
@@ -182,7 +182,7 @@ fn four(text: &[u8], at: usize, b: u8) -> Reading<Step>
         return Err(refusal_at(text, at + 3, Code::NotUtf8));
     };
     Ok(Step::Char {
-        value: 262144 * (wide(b) - 0xf0) + 4096 * c + 64 * d + e,
+        value: 262144 * (u32::from(b) - 0xf0) + 4096 * c + 64 * d + e,
         next: at + 4,
     })
 }
@@ -199,7 +199,7 @@ pub fn special(text: &[u8], at: usize) -> Reading<Step>
         b'\\' => escape(text, at),
         0x00..=0x1f => Err(refusal_at(text, at, Code::NotAllowed)),
         0x20..=0x7f => Ok(Step::Char {
-            value: wide(b),
+            value: u32::from(b),
             next: at + 1,
         }),
         0x80..=0xc1 => Err(refusal_at(text, at, Code::NotUtf8)),
@@ -218,7 +218,7 @@ pub fn char_at(text: &[u8], at: usize) -> Reading<Step>
     let b = peek(text, at);
     if is_plain(b) {
         return Ok(Step::Char {
-            value: wide(b),
+            value: u32::from(b),
             next: at + 1,
         });
     }

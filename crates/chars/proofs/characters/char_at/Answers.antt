@@ -8,4 +8,4 @@ use Rattle.chars.proofs.characters.char_at.Goals as goal
 
 pub overflow_add-result : goal.overflow_add-result
 overflow_add-result c =
-    omega (arith, char_next c.args.text.now c.args.at c.wide.result (c.args.at + 1) (plain_read _ _ c.peek-b.ensures (sym c.is_plain.ensures ∙ c.if-is_plain.true) c.wide.ensures))
+    omega (arith, char_next c.args.text.now c.args.at c.from.result (c.args.at + 1) (plain_read _ _ c.peek-b.ensures (sym c.is_plain.ensures ∙ c.if-is_plain.true) c.from.ensures))
