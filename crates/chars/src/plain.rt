@@ -4,7 +4,7 @@ ghost use Rattle.chars.specs.Plain.{is_plain, plain_end};
 
 use crate::runs::run_end;
 
-// (one match: with `matches!` and `&&` in its place Check of an array took a sixth longer)
+// An arm for each byte, which are tested at once: with `matches!` and `&&` in its place Check of an array takes a sixth longer.
 pub fn is_plain(b: u8) -> bool
     ensures { result ≡ is_plain b }
 {

@@ -8,9 +8,10 @@ ghost use Rattle.marks.specs.Filling.{entry_of, mark_words, FillReady, onward};
 use crate::packing::{first_in, fourth_in, second_in, third_in};
 use syntax::{ROW_WORDS, word};
 
-// The kinds of rows that hold others, an object's behind an array's, and of names (01, "Rows").
+// The kind of an array (01, "Rows"); an object's is the next.
 const ARRAY: u32 = 7;
 
+// The kind of a name.
 const NAME: u32 = 9;
 
 // What a row says but for the row that it stands in.
@@ -36,36 +37,14 @@ impl Entry {
             rows: 1,
         }
     }
-
-    // The entry that a mark stands for.
-    fn of(mark: u64) -> Self
-        ensures { entry_of result ≡ mark_entry mark }
-    {
-        let first = first_in(mark) as u32;
-        let last = second_in(mark) as u32;
-        let rows = third_in(mark) as u32;
-        let kind = fourth_in(mark) as u32;
-        if first > last {
-            return Self::leaf(NAME, last, first + 1);
-        }
-        if rows == 0 {
-            return Self::leaf(kind, first, last + 1);
-        }
-        Self {
-            kind: ARRAY + kind % 2,
-            first,
-            end: last + 1,
-            children: kind / 2,
-            rows,
-        }
-    }
 }
 
-// Writes a row.
-fn put(table: &mut [u32], row: usize, entry: Entry, parent: usize)
+// Writes a row, and tells how many rows its subtree has.
+fn put(table: &mut [u32], row: usize, entry: Entry, parent: usize) -> usize
     requires row_words_in_bounds { row_words * row + row_words ≤ length table.old }
     requires parent_bound { parent < 2 ^ 32 }
-    ensures { table.new ≡ sets table.old (row_words * row) (row_of (entry_of entry) parent) }
+    ensures value { result ≡ entry.rows }
+    ensures table_after { table.new ≡ sets table.old (row_words * row) (row_of (entry_of entry) parent) }
 {
     let at = ROW_WORDS * row;
     table[at] = entry.kind;
@@ -74,17 +53,34 @@ fn put(table: &mut [u32], row: usize, entry: Entry, parent: usize)
     table[at + 3] = entry.children;
     table[at + 4] = entry.rows;
     table[at + 5] = parent as u32;
+    entry.rows as usize
 }
 
-// Writes the row that a mark stands for, and tells how many rows its subtree has.
+// Writes the row that a mark stands for, and tells how many rows its subtree has. Each kind of mark has a call of its own: one call behind
+// an `Entry` made in three ways chooses each number before it stores it, and makes Read slower.
 fn put_mark(table: &mut [u32], row: usize, mark: u64, parent: usize) -> usize
     requires { (row_words * row + row_words ≤ length table.old) × (parent < 2 ^ 32) }
     ensures value { result ≡ (mark_entry mark).rows }
     ensures table_after { table.new ≡ sets table.old (row_words * row) (row_of (mark_entry mark) parent) }
 {
-    let entry = Entry::of(mark);
-    put(table, row, entry, parent);
-    entry.rows as usize
+    let first = first_in(mark) as u32;
+    let last = second_in(mark) as u32;
+    let rows = third_in(mark) as u32;
+    let kind = fourth_in(mark) as u32;
+    if first > last {
+        return put(table, row, Entry::leaf(NAME, last, first + 1), parent);
+    }
+    if rows == 0 {
+        return put(table, row, Entry::leaf(kind, first, last + 1), parent);
+    }
+    let entry = Entry {
+        kind: ARRAY + kind % 2,
+        first,
+        end: last + 1,
+        children: kind / 2,
+        rows,
+    };
+    put(table, row, entry, parent)
 }
 
 // The mark of an array or object whose row is written makes way for the row of the nearest one around it that ends later: there one goes on behind

@@ -4,6 +4,7 @@ ghost use Rattle.tokens.specs.Space.{is_space, skip};
 
 use chars::run_end;
 
+// An arm for each byte, which are tested at once: `matches!` tests one by one, and makes Read slower.
 fn is_space(b: u8) -> bool
     ensures { result ≡ is_space b }
 {

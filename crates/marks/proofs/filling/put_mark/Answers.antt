@@ -1,7 +1,7 @@
--- `Entry::of` meets its contract: the entry by which kind of mark it is.
+-- `put_mark` meets its contract: the row by which kind of mark it is.
 use Rattle.std.proofs.Common.{rules}
 use Rattle.marks.specs.Marks.{mark_entry, is_name}
-use Rattle.marks.proofs.filling.Entry.of.Goals as goal
+use Rattle.marks.proofs.filling.put_mark.Goals as goal
 
 pub returns-then-first-last : goal.returns-then-first-last
 unfolding mark_entry is_name
