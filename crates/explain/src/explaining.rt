@@ -34,8 +34,8 @@ pub fn explain(
 {
     let mut dates = [0i64; 3];
     let mut path = [0u32; PATH_WORDS];
-    let r = schema::check(document, schema, table1, table2, &mut dates, &mut path);
-    let answer = r.answer;
+    let checked = schema::check(document, schema, table1, table2, &mut dates, &mut path);
+    let answer = checked.answer;
     // Check tells a mismatch by its code alone, since C reads the four numbers of an answer.
     if answer.code < 20 {
         return Explained { answer, length: 0 };
@@ -44,6 +44,6 @@ pub fn explain(
         text: document,
         table: table1,
     };
-    let length = write_pointer(tree, &path[..r.steps as usize], out);
+    let length = write_pointer(tree, &path[..checked.steps as usize], out);
     Explained { answer, length }
 }

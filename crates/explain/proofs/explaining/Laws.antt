@@ -4,7 +4,7 @@ use mathlib.Core.Path.{◌≡◌, refl, sym, ap, subst, ◌∙◌}
 use mathlib.Core.Logic.{inl, inr, ⊎_elim}
 use mathlib.Core.List.{List, [], ◌∷◌}
 use native.Mathlib.Omega.{arith}
-use lib.ListN.{length, take, drop, length-append}
+use lib.ListN.{length, take, drop}
 use lib.Seq.{take-append_seam}
 use lib.Dec.{eqb}
 use borrow.Author.Tests.{eqb-true, eqb-false}
@@ -13,13 +13,11 @@ use Rattle.syntax.specs.Holding.{Holds}
 use Rattle.syntax.specs.Answer.{table_of}
 use Rattle.syntax.proofs.Theorems.{read_table}
 use Rattle.syntax.specs.declared.answers.Answer.{Answer}
-use Rattle.definitions.specs.Accepting.{read_schema}
 use Rattle.schema.specs.Checking.{read_document, check_answer, check_table}
 use Rattle.schema.specs.Paths.{paths, check_path, list_after}
 use Rattle.schema.proofs.Facts.{HasMismatch, has_mismatch, mismatch_found, mismatch_table, path_is, no_path}
 use Rattle.explain.specs.Pointers.{Pointer, pointers, fitted, pointer_at, check_pointer}
 use Rattle.explain.specs.Writing.{Points, HasRows, PointerReady, PointerWritten}
-use Rattle.explain.specs.declared.explaining.Explained.{Explained}
 use Rattle.explain.proofs.pointers.Paths.{picked_rows}
 use Rattle.explain.proofs.pointers.Documents.{place_ready, PointerOf, pointer_of}
 use Rattle.explain.proofs.pointers.Values.{one_pointer}
@@ -33,22 +31,15 @@ at_points r w (p ∷ ps) h =
     let e : pointer_at r (p ∷ ps) ≡ pointer_at r ps = rw n in
     inr (subst (λ (b : List ℕ). Points r b ps) (sym e) (at_points r w ps (⊎_elim (λ q. absurd (eqb-false p.row r n (sym q.0))) (λ q. q) h))))
 
--- what Explain promises of its answer, the tables u₁ and u₂ that it leaves and the buffer v, for a document s₁ and a schema s₂ with tables t₁ and t₂
--- and a buffer o
-abbrev pub Promised : List ℕ → List ℕ → List ℕ → List ℕ → List ℕ → Explained → List ℕ → List ℕ → List ℕ → Type 0
-Promised s₁ s₂ t₁ t₂ o r u₁ u₂ v =
-    let w = check_pointer (length t₁) (length t₂) s₁ s₂ in
-    (r.answer ≡ check_answer (length t₁) (length t₂) s₁ s₂)
-    × ((u₁ ≡ check_table t₁ (length t₂) s₁ s₂) × ((u₂ ≡ table_of t₂ (read_schema s₂)) × ((v ≡ fitted w o) × (r.length ≡ length w))))
-
-module _ (s₁ s₂ t₁ t₂ o : List ℕ) {a : Answer} {u₁ u₂ : List ℕ} (p : a ≡ check_answer (length t₁) (length t₂) s₁ s₂)
-    (x : u₁ ≡ check_table t₁ (length t₂) s₁ s₂) (y : u₂ ≡ table_of t₂ (read_schema s₂)) where
+-- for a document s₁ and a schema s₂ with tables t₁ and t₂, of which the first comes to be u₁
+module _ (s₁ s₂ t₁ t₂ : List ℕ) {a : Answer} {u₁ : List ℕ} (p : a ≡ check_answer (length t₁) (length t₂) s₁ s₂)
+    (x : u₁ ≡ check_table t₁ (length t₂) s₁ s₂) where
   code : a.code ≡ (check_answer (length t₁) (length t₂) s₁ s₂).code
   code = ap (λ (b : Answer). b.code) p
 
-  pub explained_none : a.code < 20 → Promised s₁ s₂ t₁ t₂ o (record { answer = a; length = 0 }) u₁ u₂ o
+  pub no_pointer : a.code < 20 → check_pointer (length t₁) (length t₂) s₁ s₂ ≡ []
   unfolding check_pointer
-  explained_none c = rw (no_path (length t₁) (length t₂) s₁ s₂ (omega (arith, code))) (p, (x, (y, (refl, refl))))
+  no_pointer c = rw (no_path (length t₁) (length t₂) s₁ s₂ (omega (arith, code))) refl
 
   module _ (c : 20 ≤ a.code) where
     known : HasMismatch (length t₁) (length t₂) s₁ s₂
@@ -62,9 +53,6 @@ module _ (s₁ s₂ t₁ t₂ o : List ℕ) {a : Answer} {u₁ u₂ : List ℕ} 
 
     -- the list that Check leaves, and its beginning
     module _ (list : List ℕ) {list₂ : List ℕ} (l : list₂ ≡ list_after rows list) {k : ℕ} (e : k ≡ length rows) where
-      pub path_within : k ≤ length list₂
-      path_within = omega (arith, ap length l, length-append rows (drop (length rows) list), e)
-
       listed : take k list₂ ≡ rows
       listed = rw (l, e) (take-append_seam rows (drop (length rows) list))
 
@@ -92,8 +80,9 @@ module _ (s₁ s₂ t₁ t₂ o : List ℕ) {a : Answer} {u₁ u₂ : List ℕ} 
             subst (λ (u : List ℕ). Holds u 0 known.tree) (sym (x ∙ mismatch_table known t₁ refl))
             (read_table _ _ s₁ t₁ known.tree known.end known.reads known.room)
 
-        pub explained : {j : ℕ} {v : List ℕ} → PointerWritten s₁ u₁ path j o v → Promised s₁ s₂ t₁ t₂ o (record { answer = a; length = j }) u₁ u₂ v
-        explained w =
+        pub explained : {k : ℕ} {o v : List ℕ} → PointerWritten s₁ u₁ path k o v
+            → let w = check_pointer (length t₁) (length t₂) s₁ s₂ in (k ≡ length w) × (v ≡ fitted w o)
+        explained {o = o} w =
             let d = pointed in
             let z = w.tells known.tree held d.row d.around d.is d.bytes d.points in
-            (p, (x, (y, (z.1 ∙ ap (λ (b : List ℕ). fitted b o) (sym is_pointer), z.0 ∙ ap length (sym is_pointer)))))
+            (z.0 ∙ ap length (sym is_pointer), z.1 ∙ ap (λ (b : List ℕ). fitted b o) (sym is_pointer))

@@ -1,11 +1,11 @@
 -- Bytes put into a buffer: one piece behind the other, and from place 0 on.
-use Prim.Native.Nat.{ℕ, suc, ◌+◌, ◌≤◌, ◌<◌}
+use Prim.Native.Nat.{ℕ, suc, ◌+◌, ◌<◌}
 use mathlib.Core.Path.{◌≡◌, refl, sym, ap, ◌∙◌}
 use mathlib.Core.List.{List, [], ◌∷◌, ◌++◌}
 use native.Mathlib.Numerals.{add-one}
 use native.Mathlib.Omega.{arith}
 use lib.ListN.{length, get_or, take, set, length-append}
-use lib.Seq.{sets, length-sets, set_out, take-suc, take-length}
+use lib.Seq.{sets, length-sets, take-suc}
 use Rattle.explain.specs.Pointers.{fitted}
 use Rattle.explain.specs.Writing.{Puts}
 
@@ -18,14 +18,6 @@ sets_append (x ∷ u) v out i =
 -- nothing
 pub puts_none : (i : ℕ) (out : List ℕ) → Puts [] i i out out
 puts_none i out = record { next = omega arith; holds = refl }
-
--- a byte, in the buffer and behind it
-module _ (out : List ℕ) (i x : ℕ) {out₂ : List ℕ} where
-  pub puts_in : out₂ ≡ set out i x → Puts (x ∷ []) i (i + 1) out out₂
-  puts_in e = record { next = refl; holds = e }
-
-  pub puts_out : length out ≤ i → out₂ ≡ out → Puts (x ∷ []) i (i + 1) out out₂
-  puts_out l e = record { next = refl; holds = e ∙ sym (set_out out i x l) }
 
 -- one piece more
 pub puts_append : {u v : List ℕ} {i j k : ℕ} {out out₂ out₃ : List ℕ} → Puts u i j out out₂ → Puts v j k out₂ out₃ → Puts (u ++ v) i k out out₃
@@ -40,22 +32,12 @@ puts_append {u} {v} {i} {j} {k} {out} {out₂} {out₃} p q =
 abbrev pub PutsTo : List ℕ → ℕ → ℕ → List ℕ → List ℕ → Type 0
 PutsTo bytes at i out out₂ = Puts (take i bytes) at (at + i) out out₂
 
-pub puts_first : (bytes : List ℕ) (at : ℕ) (out : List ℕ) → PutsTo bytes at 0 out out
-puts_first bytes at out = record { next = refl; holds = refl }
-
 pub puts_one : (bytes : List ℕ) (at i : ℕ) {r : ℕ} {out out₂ out₃ : List ℕ} → i < length bytes → PutsTo bytes at i out out₂
     → Puts (get_or bytes i 0 ∷ []) (at + i) r out₂ out₃ → PutsTo bytes at (i + 1) out out₃
 puts_one bytes at i {r} {out} {out₂} {out₃} l p q =
     let e : at + (i + 1) ≡ r = omega (arith, q.next) in
     let t : take (i + 1) bytes ≡ take i bytes ++ (get_or bytes i 0 ∷ []) = rw add-one (take-suc bytes i 0 l) in
     rw (e, t) (puts_append p q)
-
-pub puts_all : (bytes : List ℕ) (at i : ℕ) {out out₂ : List ℕ} → i ≤ length bytes → length bytes ≤ i → PutsTo bytes at i out out₂
-    → Puts bytes at (at + i) out out₂
-puts_all bytes at i l m p =
-    let e : i ≡ length bytes = omega arith in
-    let t : take i bytes ≡ bytes = rw e (take-length bytes) in
-    rw t at p
 
 pub puts_as : {u w : List ℕ} {i k : ℕ} {out out₂ : List ℕ} → u ≡ w → Puts w i k out out₂ → Puts u i k out out₂
 puts_as e p = rw e p

@@ -3,13 +3,11 @@ use Prim.Native.Nat.{ℕ, ◌≤◌}
 use mathlib.Core.Path.{◌≡◌}
 use mathlib.Core.List.{List, [], ◌∷◌}
 use native.Mathlib.Omega.{arith}
-use lib.ListN.{length, take, drop}
-use lib.Seq.{take-append_seam}
+use lib.ListN.{length}
 use lib.Dec.{ltb}
 use borrow.Author.Tests.{ne_eqb}
 use Rattle.model.proofs.Basics.{both}
 use Rattle.grammar.specs.Utf8.{utf8}
-use Rattle.writer.specs.Compact.{over}
 use Rattle.explain.specs.Pointers.{token_char}
 
 module _ (c : ℕ) where
@@ -22,10 +20,6 @@ module _ (c : ℕ) where
     where
       Short : List ℕ → Type 0
       Short w = length w ≤ 4
-
-  -- as it was written to a buffer
-  pub utf8_written : {n : ℕ} (buffer : List ℕ) {w : List ℕ} → n ≡ length (utf8 c) → w ≡ over (utf8 c) buffer → take n w ≡ utf8 c
-  utf8_written buffer e q = rw (e, q) (take-append_seam (utf8 c) (drop (length (utf8 c)) buffer))
 
   pub token_tilde : c ≡ 0x7E → token_char c ≡ 0x7E ∷ 0x30 ∷ []
   unfolding token_char

@@ -220,7 +220,8 @@ module _ {s t path w before rest : List ℕ} {at : ℕ} {out : List ℕ} (g : Do
   downwards_end l = walked_end g.walked (omega arith)
 
   -- the last two of them are the next step
-  module _ (l : 2 ≤ length rest) {pair : List ℕ} (e : pair ≡ drop (length rest - 2) rest) (h : length s ≤ 65536) (b : (i : ℕ) → get_or path i 0 < 0x100000000) where
+  module _ (l : 2 ≤ length rest) {pair : List ℕ} (e : pair ≡ drop (length rest - 2) rest) (h : length s ≤ 65536)
+      (b : (i : ℕ) → get_or path i 0 < 0x100000000) where
     pair_at : (k : ℕ) → k < 2 → get_or pair k 0 ≡ get_or path (length rest - 2 + k) 0
     pair_at k m =
         ap (λ (p : List ℕ). get_or p k 0) e
@@ -243,7 +244,7 @@ module _ {s t path w before rest : List ℕ} {at : ℕ} {out : List ℕ} (g : Do
         let n : length rest₂ ≡ length rest - 1 = ap length q ∙ length-take-le (length rest - 1) rest (omega arith) in
         let u : TokenPut s t (get_or path (length rest - 1) 0) (get_or path (length rest - 1 - 1) 0) at k out out₂ = rw (parent_is, child_is) at p in
         let v : rest₂ ≡ take (length rest - 1) path =
-            q ∙ ap (λ (r : List ℕ). take (length rest - 1) r) g.is ∙ take-take (length rest - 1) (length rest) path (omega arith) in
+        q ∙ ap (λ (r : List ℕ). take (length rest - 1) r) g.is ∙ take-take (length rest - 1) (length rest) path (omega arith) in
         record {
           some = omega (arith, n);
           is = rw n v;

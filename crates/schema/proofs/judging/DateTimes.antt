@@ -1,4 +1,4 @@
--- A value against DateTime, on plain values: one law for each way out of `judge_date` (01, "Definitions": "First misfit"; 02, L3).
+-- A string against DateTime, on plain values: a law for a date, and one for no date (01, "Definitions": "First misfit"; 02, L3).
 use Prim.Native.Nat.{ℕ}
 use mathlib.Core.Path.{◌≡◌, sym, ap, subst, ◌∙◌}
 use mathlib.Core.Bool.{true, false}
@@ -8,7 +8,7 @@ use lib.IntN.{ℤ}
 use mir.Syntax.{w64}
 use mir.Val.{SFits, to_z, of_z}
 use mir.ValLaws.{to_z-of_z}
-use borrow.Author.Tests.{eqb-true, eqb-false}
+use borrow.Author.Tests.{eqb-true}
 use Rattle.std.specs.Prelude.{Option, Some, None, Ok, Err}
 use Rattle.model.specs.Date.{is_date, moment}
 use Rattle.model.proofs.Basics.{by_test}
@@ -22,9 +22,8 @@ use Rattle.schema.specs.Walks.{Counted, JudgedDate}
 use Rattle.schema.specs.declared.dates.Dates.{Dates}
 use Rattle.schema.specs.declared.judging.Mismatch.{Mismatch}
 use Rattle.schema.specs.declared.judging.MismatchCode.TheVariants.{NoDate}
-use Rattle.rows.proofs.Facts.{kind_read, place_read, string_read}
-use Rattle.schema.proofs.judging.OtherKinds.{no_date}
-use Rattle.schema.proofs.judging.Laws.{passed, missed, walks_fails, walks_date}
+use Rattle.rows.proofs.Facts.{string_read}
+use Rattle.schema.proofs.judging.Laws.{passed, walks_fails, walks_date}
 
 -- what is told of a string by its moment
 dated : (c : List ℕ) (z : ℤ) → moment_of c ≡ Some z → (is_date c ≡ true) × (moment c ≡ z)
@@ -39,36 +38,24 @@ undated c q = by_test (is_date c) (λ t. let e : Some (moment c) ≡ None = rw t
 string_passed : (x : Record) (o : ℕ) {m : Judgement} {v : Unit {0}} → m ≡ unless (eqb x.kind 6) x.first o → m ≡ Ok v → x.kind ≡ 6
 string_passed x o u e = eqb-true x.kind 6 (passed (eqb x.kind 6) x.first o u e)
 
-string_missed : (x : Record) (o : ℕ) {m : Judgement} {z : Mismatch} → m ≡ unless (eqb x.kind 6) x.first o → m ≡ Err z
-    → (x.kind ≡ 6 → ⊥) × (unless false x.first o ≡ Err z)
-string_missed x o u e = let k = missed (eqb x.kind 6) x.first o u e in (eqb-false x.kind 6 k, rw k at (sym u) ∙ e)
-
 pub date_string : {t : List ℕ} {r : ℕ} {x : Record} → Reads t r x → (o : ℕ) {m : Judgement} {v : Unit {0}} → m ≡ unless (eqb x.kind 6) x.first o → m ≡ Ok v
     → word t r 0 ≡ 6
 date_string {x = x} p o u e = sym p.kind ∙ string_passed x o u e
 
 module _ {s t : List ℕ} {r : ℕ} {x : Record} (p : Reads t r x) (o : ℕ) {m : Judgement} (u : m ≡ unless (eqb x.kind 6) x.first o) where
-  pub date_other : {z : Mismatch} → m ≡ Err z → {d d₂ : Dates} → JudgedDate s t r o (Err z) d d₂
-  date_other e = record {
-    tells = λ w.
-        (let k = string_missed x o u e in
-        walks_fails (no_date s o w.tree (λ q. k.0 (kind_read w p ∙ q)) ∙ rw (place_read w p) at k.1) []);
-  }
+  -- the string was judged as a date
+  module _ {v : Unit {0}} (e : m ≡ Ok v) {k : Option ℤ} (told : k ≡ moment_of (name_of s x.first x.end)) where
+    -- its moment is counted as it is read back
+    pub date_is : {z : ℤ} {d d₂ : Dates} → k ≡ Some z → SFits w64 z → Counted (to_z w64 (of_z w64 z)) d d₂ → JudgedDate s t r o nothing d d₂
+    date_is {z} {d} {d₂} q f c = record {
+      tells = λ w.
+          (let y = dated (name_of s x.first x.end) z (sym told ∙ q) in
+          let counted : Counted z d d₂ = subst (λ (z : ℤ). Counted z d d₂) (to_z-of_z w64 z f) c in
+          rw (string_read w p (string_passed x o u e)) (walks_date z (rw y.0) (ap (λ (k : ℤ). k ∷ []) y.1) counted));
+    }
 
-  module _ {v : Unit {0}} (e : m ≡ Ok v) where
-    -- the string was judged as a date
-    module _ {k : Option ℤ} (told : k ≡ moment_of (name_of s x.first x.end)) where
-      -- its moment is counted as it is read back
-      pub date_is : {z : ℤ} {d d₂ : Dates} → k ≡ Some z → SFits w64 z → Counted (to_z w64 (of_z w64 z)) d d₂ → JudgedDate s t r o nothing d d₂
-      date_is {z} {d} {d₂} q f c = record {
-        tells = λ w.
-            (let y = dated (name_of s x.first x.end) z (sym told ∙ q) in
-            let counted : Counted z d d₂ = subst (λ (z : ℤ). Counted z d d₂) (to_z-of_z w64 z f) c in
-            rw (string_read w p (string_passed x o u e)) (walks_date z (rw y.0) (ap (λ (k : ℤ). k ∷ []) y.1) counted));
-      }
-
-      pub date_not : k ≡ None → {z : Mismatch} → z ≡ mismatch NoDate x.first o → {d d₂ : Dates} → JudgedDate s t r o (Err z) d d₂
-      date_not q n = record {
-        tells = λ w.
-            rw (string_read w p (string_passed x o u e), n) (walks_fails (rw (undated (name_of s x.first x.end) (sym told ∙ q))) []);
-      }
+    pub date_not : k ≡ None → {z : Mismatch} → z ≡ mismatch NoDate x.first o → {d d₂ : Dates} → JudgedDate s t r o (Err z) d d₂
+    date_not q n = record {
+      tells = λ w.
+          rw (string_read w p (string_passed x o u e), n) (walks_fails (rw (undated (name_of s x.first x.end) (sym told ∙ q))) []);
+    }

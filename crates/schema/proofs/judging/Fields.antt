@@ -1,4 +1,4 @@
--- An object against a definition under Object, on plain values: one law for each way out of `judge_object`, `judge_fields`, `judge_wide` and
+-- An object against a definition under Object, on plain values: laws for the ways out of `judge_object`, `judge_fields`, `judge_wide` and
 -- `judge_field`. The loops go through the fields of a part, in schema order; their invariants, `InFields` and `InWide`, say that what is left to judge
 -- answers for the whole, from the dates so far.
 use Prim.Native.Nat.{ℕ, ◌+◌, ◌-◌, ◌≤◌, ◌<◌}
@@ -18,7 +18,7 @@ use Rattle.syntax.specs.Grammar.{name_of}
 use Rattle.syntax.specs.Holding.{word}
 use Rattle.definitions.specs.Definitions.{LocatedFields}
 use Rattle.definitions.specs.Shapes.{FieldsRow}
-use Rattle.schema.specs.Judging.{mismatch, Judgement, nothing, unless, Visit, at_name, missing, skipped, visits, field_visits}
+use Rattle.schema.specs.Judging.{Judgement, nothing, unless, Visit, at_name, missing, skipped, visits, field_visits}
 use Rattle.schema.specs.Walks.{Walks, Judgeable, Judged, BodyJudgeable, FieldsJudgeable, absence, FieldsJudged, FieldJudgeable, FieldJudged}
 use Rattle.rows.specs.Children.{Passes, Begins}
 use Rattle.rows.specs.Records.{Reads, ObjectRow}
@@ -28,13 +28,12 @@ use Rattle.rows.specs.declared.children.Children.{Children}
 use Rattle.rows.specs.declared.records.Record.{Record}
 use Rattle.schema.specs.declared.dates.Dates.{Dates}
 use Rattle.schema.specs.declared.judging.Mismatch.{Mismatch}
-use Rattle.schema.specs.declared.judging.MismatchCode.TheVariants.{MissingName}
-use Rattle.definitions.proofs.Facts.{FieldsLeft, FieldHere, fields_none, fields_start, fields_end, field_here, fields_found, part_less, same_fields}
+use Rattle.definitions.proofs.Facts.{FieldsLeft, FieldHere, fields_start, fields_end, field_here, fields_found, part_less, same_fields}
 use Rattle.definitions.proofs.Facts.{ObjectBody, part_rows, Inside, inside, start_rest, behind_rest}
-use Rattle.rows.proofs.Facts.{members_in, row, kind_read, same_tree, as_row, row_object, as_object, part_object, name_here}
-use Rattle.rows.proofs.Facts.{matched_fresh, Answers, answers_start, answers_here, answers_next, found, not_found}
+use Rattle.rows.proofs.Facts.{members_in, kind_read, same_tree, as_row, row_object, as_object, part_object, name_here}
+use Rattle.rows.proofs.Facts.{matched_fresh, Answers, answers_start, answers_here, answers_next, found}
 use Rattle.schema.proofs.judging.OtherKinds.{object_kind}
-use Rattle.schema.proofs.judging.Laws.{passed, walks_none, walks_fails, walks_passes, walks_stops, walks_on, defined, conclude, wrong_kind}
+use Rattle.schema.proofs.judging.Laws.{passed, walks_none, walks_passes, walks_stops, walks_on, defined, conclude, wrong_kind}
 
 -- ---- both parts
 
@@ -109,10 +108,6 @@ module _ {s₁ s₂ t₁ t₂ : List ℕ} {r₁ : ℕ} {r₂ : Option ℕ} (requ
         let n : j.document.members ≡ i.document.members = ap members_in e in
         rw (← f, ← n, ← same_fields (at_row j) (at_row i)) q);
   }
-
-pub no_fields : {s₁ s₂ t₁ t₂ : List ℕ} {r₁ : ℕ} {required : Bool} → FieldsJudgeable s₁ s₂ t₁ t₂ r₁ None → {d : Dates}
-    → FieldsJudged s₁ s₂ t₁ t₂ r₁ None required nothing d d
-no_fields {required = required} j = conclude_fields required j (rw (ap (by_fields required j) (fields_none (at_row j))) walks_none)
 
 -- before the fields whose names are left
 pub record InFields (s₁ s₂ t₁ t₂ : List ℕ) (r₁ : ℕ) (r₂ : Option ℕ) (required : Bool) (c : Children 1) (d₀ d : Dates) : Type 0 where
@@ -214,9 +209,6 @@ module _ {s₁ s₂ t₁ t₂ : List ℕ} {r₁ : ℕ} {required : Bool} {vs : L
     wide_end l = fields_judged a.ahead l
 
     module _ {n : ℕ} {e : Children 1} (p : Passes c n e) {j : ℕ} (q : j ≡ i) where
-      pub wide_room : j < most_names
-      wide_room = omega (arith, a.few, p.some)
-
       pub wide_sought : FieldSought s₁ s₂ t₁ t₂ r₁ r₂ required n (found_at vs j) c e d₀ d
       wide_sought = rw q (record { ahead = a.ahead; passes = p; finds = answers_here a.matched p (name_here a.ahead.ahead.ahead p) })
 
@@ -243,16 +235,3 @@ module _ {s₁ s₂ t₁ t₂ : List ℕ} {r₁ r₂ : ℕ} where
   pub field_found : {required : Bool} {v : ℕ} {m : Judgement} {d d₂ : Dates} → Judged s₁ s₂ t₁ t₂ v (r₂ + 1) m d d₂
       → FieldJudged s₁ s₂ t₁ t₂ r₁ (Some v) r₂ required m d d₂
   field_found {required} h = record { tells = λ j. rw (ap (by_value required j) (found j.document j.finds).is) (h.tells (field_value j)) }
-
-  -- none is found
-  field_absent : {required : Bool} {m : Judgement} {d : Dates}
-      → ((j : FieldJudgeable s₁ s₂ t₁ t₂ r₁ None r₂) → Walks s₁ (absence required j.document.first (word t₂ r₂ 1)) m d d)
-      → FieldJudged s₁ s₂ t₁ t₂ r₁ None r₂ required m d d
-  field_absent {required} e = record { tells = λ j. rw (ap (by_value required j) (not_found j.document j.finds)) (e j) }
-
-  pub field_missing : {x y : Record} → Reads t₁ r₁ x → Reads t₂ r₂ y → {z : Mismatch} → z ≡ mismatch MissingName x.first y.first → {d : Dates}
-      → FieldJudged s₁ s₂ t₁ t₂ r₁ None r₂ true (Err z) d d
-  field_missing p w e = field_absent (λ j. rw e (walks_fails (rw (w.first, p.first, (row (as_row j.document)).first)) _))
-
-  pub field_skipped : {d : Dates} → FieldJudged s₁ s₂ t₁ t₂ r₁ None r₂ false nothing d d
-  field_skipped = field_absent (λ j. walks_none)

@@ -26,10 +26,6 @@ pub passed : (b : Bool) (f p : ℕ) {m : Judgement} {u : Unit {0}} → m ≡ unl
 passed true f p e q = refl
 passed false f p e q = never (cc)
 
-pub missed : (b : Bool) (f p : ℕ) {m : Judgement} {x : Mismatch} → m ≡ unless b f p → m ≡ Err x → b ≡ false
-missed true f p e q = never (cc)
-missed false f p e q = refl
-
 -- ---- what is judged first counts
 
 module _ {s : List ℕ} {d : Dates} where

@@ -6,9 +6,9 @@ use mathlib.Core.List.{List, [], ◌∷◌, ◌++◌, append_assoc}
 use native.Mathlib.Omega.{arith}
 use Rattle.std.specs.Prelude.{Option, Some, None}
 use lib.ListN.{length, get_or, drop, set, length-append}
-use lib.Seq.{drop-cons, set_at, length_front, length-take-le}
+use lib.Seq.{drop-cons, set_at}
 use lib.Dec.{eqb}
-use borrow.Author.Tests.{eqb-true, eq-eqb, ne_eqb}
+use borrow.Author.Tests.{eqb-true, ne_eqb}
 use Rattle.model.proofs.Basics.{both, by_test, never}
 use Rattle.syntax.specs.Tree.{Node, scalar, array, object, Nodes, none as no_Node, more, Members, no_member, member}
 use Rattle.syntax.specs.Rows.{row_words, size, sizes, sizes_members}
@@ -38,9 +38,6 @@ module _ (t : List ℕ) (x : ℕ) where
   -- the next row begins there, or not
   abbrev left : (row rows : ℕ) → row < rows → rows - row ≡ suc (rows - (row + 1))
   left row rows l = omega arith
-
-  pub first_here : {row rows : ℕ} → row < rows → (word t row 0 ≡ 9 → ⊥) → word t row 1 ≡ x → first_at t x row (rows - row) ≡ Some row
-  first_here {row} {rows} l n e = rw (left row rows l, ne_eqb (word t row 0) 9 n, eq-eqb (word t row 1) x e)
 
   pub first_name : {row rows : ℕ} → row < rows → word t row 0 ≡ 9 → first_at t x row (rows - row) ≡ first_at t x (row + 1) (rows - (row + 1))
   first_name {row} {rows} l e = rw (left row rows l, e)
@@ -230,11 +227,6 @@ way_begins h = record {
 }
 
 module _ {t : List ℕ} {from : ℕ} {list₀ list : List ℕ} {row n : ℕ} (w : OnTheWay t from list₀ list row n) where
-  pub way_length : length list ≡ length list₀
-  way_length =
-      ap length w.listed ∙ length_front list₀ w.passed (length w.passed)
-      (sym (length-take-le (length w.passed) list₀ (omega (arith, w.few, length-append w.passed w.ahead))))
-
   -- a row below the top
   module _ (l : 0 < row) where
     abbrev next : (rest : List ℕ) × (w.ahead ≡ row ∷ rest) × (word t row 5 < row) × Leads t (word t row 5) rest

@@ -6,9 +6,6 @@ use Rattle.explain.proofs.pieces.+put_index.Goals as goal
 pub returns-then-index-lt10 : goal.returns-then-index-lt10
 returns-then-index-lt10 t c = puts_as (decimal_small _ (omega arith)) c.put.ensures
 
-pub put_index-behind-requires : goal.put_index-behind-requires
-put_index-behind-requires t c = (omega arith, omega arith)
-
 pub put-requires-2 : goal.put-requires-2
 put-requires-2 t c = omega (arith, decimal_near c.put_index-behind.ensures (omega arith))
 

@@ -1,12 +1,8 @@
 use mathlib.Core.Path.{sym, ◌∙◌}
 use native.Mathlib.Omega.{arith}
 use Rattle.chars.proofs.Facts.{char_next, char_read}
-use Rattle.explain.proofs.pieces.Buffers.{puts_length}
-use Rattle.explain.proofs.pieces.Names.{naming_start, naming_next, naming_end}
+use Rattle.explain.proofs.pieces.Names.{naming_next, naming_end}
 use Rattle.explain.proofs.pieces.put_name.Goals as goal
-
-pub loop-character-init : goal.loop-character-init
-loop-character-init c = naming_start _ _ _
 
 pub put_char-next-requires : goal.put_char-next-requires
 put_char-next-requires c =
@@ -18,9 +14,6 @@ loop-character-smaller c = omega (arith, char_next _ _ _ _ (char_read _ _ _ _ (s
 
 pub loop-character-preserved : goal.loop-character-preserved
 loop-character-preserved c = naming_next c.loop-character.invariant _ (sym c.character_at.ensures ∙ c.in-Some.is) c.put_char-next.ensures
-
-pub shape_of-out : goal.shape_of-out
-shape_of-out c = puts_length c.loop-character.invariant.puts
 
 pub returns : goal.returns
 returns c = naming_end c.loop-character.invariant (sym c.character_at.ensures ∙ c.in_default.is)

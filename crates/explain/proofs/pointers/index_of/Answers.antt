@@ -1,12 +1,9 @@
 use native.Mathlib.Omega.{arith}
-use Rattle.explain.proofs.pointers.Elements.{element_ahead, passed_none, passed_here, passed_all}
+use Rattle.explain.proofs.pointers.Elements.{element_ahead, passed_here, passed_all}
 use Rattle.explain.proofs.pointers.index_of.Goals as goal
 
 pub overflow_add-row : goal.overflow_add-row
 overflow_add-row c = omega (arith, element_ahead c.requires.is)
-
-pub loop-row-init : goal.loop-row-init
-loop-row-init c = λ d. passed_none d
 
 pub row_at-row-requires : goal.row_at-row-requires
 row_at-row-requires c = (passed_here (c.loop-row.invariant c.requires) c.loop-row-test.true).in_table

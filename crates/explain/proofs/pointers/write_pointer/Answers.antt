@@ -1,7 +1,6 @@
 use mathlib.Core.Path.{refl, ◌∙◌}
 use native.Mathlib.Omega.{arith}
-use Rattle.explain.proofs.pieces.Buffers.{puts_length}
-use Rattle.explain.proofs.pointers.Chains.{Chained, downwards_start, downwards_end, downwards_ready, downwards_next}
+use Rattle.explain.proofs.pointers.Chains.{downwards_start, downwards_end, downwards_ready, downwards_next}
 use Rattle.explain.proofs.pointers.Values.{pointer_written}
 use Rattle.explain.proofs.pointers.Paths.{chained}
 use Rattle.explain.proofs.pointers.write_pointer.Goals as goal
@@ -21,10 +20,11 @@ put_token-at-requires c =
 pub loop-pair-preserved : goal.loop-pair-preserved
 loop-pair-preserved c =
     let z = c.in-Some.ensures.steps in
-    let n = c.loop-pair.invariant.0 in
-    (z.0 ∙ n,
-    λ d. downwards_next (c.loop-pair.invariant.1 d) (omega (arith, n, z.1.0)) (rw n at z.1.1) d.short (λ i. omega (arith, c.type_inv.path i))
-    c.put_token-at.ensures z.1.2)
+    let n = c.loop-pair.invariant.0 in (
+      z.0 ∙ n,
+      λ d. downwards_next (c.loop-pair.invariant.1 d) (omega (arith, n, z.1.0)) (rw n at z.1.1) d.short (λ i. omega (arith, c.type_inv.path i))
+          c.put_token-at.ensures z.1.2,
+    )
 
 pub returns : goal.returns
 returns c =

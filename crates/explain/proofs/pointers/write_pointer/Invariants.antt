@@ -8,4 +8,5 @@ use Rattle.explain.proofs.pointers.write_pointer.Given as goal
 abbrev pub invariant-loop-pair : goal.invariant-loop-pair
 invariant-loop-pair l =
     (windows_size (rev_source l.pair-iterator) ≡ 2)
-    × ((d : Chained l.tree.text.now l.tree.table.now l.path) → Downwards l.tree.text.now l.tree.table.now l.path d.bytes l.initial.out (windows_rest (rev_source l.pair-iterator)) l.at l.out)
+    × ((d : Chained l.tree.text.now l.tree.table.now l.path)
+    → Downwards l.tree.text.now l.tree.table.now l.path d.bytes l.initial.out (windows_rest (rev_source l.pair-iterator)) l.at l.out)

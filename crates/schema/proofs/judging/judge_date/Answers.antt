@@ -1,4 +1,4 @@
--- `judge_date` meets its contract: a value that is no string, a string that is no date, and a date; `DateTimes` has a law for each.
+-- `judge_date` meets its contract: a string that is no date, and a date; `DateTimes` has a law for each.
 use mathlib.Core.Path.{◌≡◌}
 use Rattle.std.proofs.Common.{rules}
 use Rattle.date.specs.Moments.{moment_of}
