@@ -6,7 +6,8 @@ use crate::bytes::{code_of, digit_at, escape_of, highest, lowest, peek, six_at};
 use crate::plain::is_plain;
 use crate::refusals::{Code, Reading, Refusal};
 
-// What stands at a place of a string: a character, with its scalar value and the place behind it; or the closing quote.
+// What stands at a place of a string: a character, with its scalar value and the place behind it; or the closing quote. An `Option` of a character
+// would be no plainer: the quote is what is found, and not that nothing is.
 #[derive(Clone, Copy, Debug, PartialEq, Eq)]
 pub enum Step {
     Char { value: u32, next: usize },

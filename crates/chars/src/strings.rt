@@ -46,6 +46,7 @@ fn equal(a: &[u8], b: &[u8]) -> bool
 }
 
 // Whether two names have the same characters, compared one by one.
+// Neither place is counted: each is where the character before ended, as `character_at` tells.
 // It is called in two places, so that the compiler keeps it out of `same_name`, whose tests of bytes then stand in its callers.
 fn same_characters(a: &[u8], b: &[u8]) -> bool
     ensures { result ≡ same (characters a.now) (characters b.now) }

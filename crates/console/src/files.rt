@@ -73,7 +73,7 @@ pub fn load<'a>(rt: &(impl Env + Files), i: usize, buf: &'a mut [u8]) -> Result<
     Ok(read_full(&mut file, buf)?)
 }
 
-// Reads until buf is full or the input ends. A directory opens, and its first read fails.
+// Reads until buf is full or the input ends, and counts, since a read tells how many bytes it put. A directory opens, and its first read fails.
 pub fn read_full<'a, R: Read>(input: &mut R, buf: &'a mut [u8]) -> Result<&'a [u8], Broken<'a>>
     ensures within { IfOk result (λ read. length read.now ≤ length buf.old) }
     ensures reads { IfOk result (λ read. Consumes (R.remaining input.old) (R.remaining input.new) read.now) }

@@ -14,6 +14,7 @@ pub fn accept(which: u32, schema: &[u8], table: &mut [u32]) -> Result<(), Answer
     ensures rows { table.new ≡ table_of table.old (read_schema schema.now) }
 {
     let read = read_within(Limits::schema(), which, schema, table);
+    // A service answers four numbers (01, "Three services"), so that a refusal is told by its code.
     if read.code != 0 {
         return Err(read);
     }

@@ -19,7 +19,7 @@ pub enum TypeName {
 }
 
 impl TypeName {
-    // Whether the type takes every value of a kind.
+    // Whether the type takes every value of a kind, which is a row's number (see `Record`).
     #[tactic(auto, unfolding(crate::specs::Types::takes_kind))]
     pub fn takes(self, kind: u32) -> bool
         ensures { result ≡ takes_kind self kind }

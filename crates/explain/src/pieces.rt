@@ -52,7 +52,7 @@ fn put_char(out: &mut [u8], at: usize, c: u32) -> usize
     }
 }
 
-// The characters of a name, of which the bytes between the quotes are given.
+// The characters of a name, of which the bytes between the quotes are given. Each tells where the next begins.
 pub fn put_name(out: &mut [u8], at: usize, name: &[u8]) -> usize
     requires { (length name.now ≤ 65536) × (at ≤ near + 1) }
     ensures { Puts (token_chars (characters name.now)) at result out.old out.new }

@@ -150,7 +150,7 @@ fn item(
     value(first, text, heads, marks, row, at, depth)
 }
 
-// The array whose bracket stands at a place.
+// The array whose bracket stands at a place. Where an item begins is told by the one before it, so there is nothing to iterate over; so in `object`.
 #[cycle(array_item_member_object_value)]
 fn array(
     text: &[u8],

@@ -7,7 +7,8 @@ ghost use Rattle.rows.specs.Records.{InTable, Reads};
 
 use syntax::word;
 
-// A row: its kind, where its bytes begin and end, how many children it has, and the row behind its subtree.
+// A row: its kind, where its bytes begin and end, how many children it has, and the row behind its subtree. The kind is the paper's number, here and
+// where it is tested: `row_at` asks only that the row lies in the table, so an enum would need a variant for words that are no kind.
 #[derive(Clone, Copy, Debug, PartialEq, Eq)]
 pub struct Record {
     pub kind: u32,

@@ -34,6 +34,7 @@ fn read_both(
 {
     accept(2, schema, table2)?;
     let read = read_within(Limits::document(), 1, document, table1);
+    // A service answers four numbers (01, "Three services"), so that a refusal is told by its code.
     if read.code != 0 {
         return Err(read);
     }

@@ -5,6 +5,7 @@ ghost use Rattle.syntax.specs.Line.{answer_line};
 
 use std::fmt;
 
+// The code is a number, here and where it is made or tested, since C reads it and the contracts of the services say it.
 #[derive(Clone, Copy, Debug, PartialEq, Eq)]
 pub struct Answer {
     pub code: u32,

@@ -57,7 +57,7 @@ fn judge<F: FnOnce(&[u8], &[u8], &mut [u32], &mut [u32]) -> Answer>(
     Ok(service(first, second, &mut table1, &mut table2))
 }
 
-// Check's answer alone.
+// Check's answer alone. `vectors` has these lines too: a crate that lends them to both would be longer than they are.
 fn check(document: &[u8], schema: &[u8], table1: &mut [u32], table2: &mut [u32]) -> Answer {
     let mut dates = [0i64; 3];
     let mut path = [0u32; PATH_WORDS];

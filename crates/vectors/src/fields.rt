@@ -33,7 +33,7 @@ fn hex(b: u8) -> Option<u8>
     }
 }
 
-// Puts the text that a field spells at the start of out, if it fits.
+// Puts the text that a field spells at the start of out, if it fits. Each piece tells what is left of the field.
 pub fn decode<'a>(field: &[u8], out: &'a mut [u8]) -> Option<&'a [u8]>
     ensures { IfSome result (λ text. length text.now ≤ length out.old) }
 {

@@ -58,7 +58,7 @@ fn write_stretch(text: &[u8], at: usize, out: &mut [u8]) -> Piece
     }
 }
 
-// The string or name at a place.
+// The string or name at a place. Where a stretch begins is told by the one before it, so there is nothing to iterate over; so in `write_string`.
 pub fn measure_string(text: &[u8], at: usize) -> Piece
     requires { IsQuoted text.now at (string_end text.now at) }
     ensures { result ≡ piece (string_end text.now at) (string_bytes text.now at) }

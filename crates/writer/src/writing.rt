@@ -5,7 +5,7 @@ ghost use Rattle.writer.specs.Tokens.{Writable, Measures, Writes};
 use crate::pieces::{measure_string, write_token};
 use tokens::skip;
 
-// How many bytes are written for a text.
+// How many bytes are written for a text. Where a token begins is told by the one before it, so there is nothing to iterate over; so in `write`.
 pub fn measure(text: &[u8]) -> usize
     requires { Writable text.now (length text.now) }
     ensures { Measures text.now result }
