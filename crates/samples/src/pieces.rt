@@ -1,7 +1,6 @@
 // The pieces of a document: each writer writes from byte 0 of what it is lent, and tells how many bytes it wrote.
-ghost use Rattle.std.specs.Prelude.{◌≤◌, length};
+ghost use Rattle.std.specs.Prelude.{◌≡◌, ◌≤◌, length};
 ghost use Rattle.writer.specs.Spell.{spell};
-ghost use Rattle.comparison.specs.Carrying.{type_of};
 ghost use Rattle.samples.specs.Writing.{plain_by, apart_by, Writes, NameReady, NameWritten};
 
 use definitions::TypeName;
@@ -16,30 +15,30 @@ pub fn write_bytes(bytes: &[u8], out: &mut [u8]) -> usize
     bytes.len()
 }
 
-// Writes a value of a named type that is neither array nor object.
-pub fn write_plain(name: TypeName, out: &mut [u8]) -> usize
-    requires { length (spell (plain_by (type_of name))) ≤ length out.old }
-    ensures { Writes (spell (plain_by (type_of name))) result out.old out.new }
+// A value of a named type that is neither array nor object.
+#[tactic(auto, unfolding(writer::specs::Spell::spell_char, grammar::specs::Utf8::utf8))]
+pub fn plain_bytes(name: Option<TypeName>) -> &'static [u8]
+    ensures { result.now ≡ spell (plain_by name) }
 {
     match name {
-        TypeName::Schema => write_bytes(b"\"JSON\"", out),
-        TypeName::Float => write_bytes(b"0.5", out),
-        TypeName::Integer => write_bytes(b"0", out),
-        TypeName::Text => write_bytes(b"\"\"", out),
-        TypeName::Boolean => write_bytes(b"true", out),
-        TypeName::DateTime => write_bytes(b"\"2000-01-01T00:00:00Z\"", out),
-        _ => write_bytes(b"null", out),
+        None | Some(TypeName::Json) => b"null",
+        Some(TypeName::Schema) => b"\"JSON\"",
+        Some(TypeName::Float) => b"0.5",
+        Some(TypeName::Integer) => b"0",
+        Some(TypeName::Text) => b"\"\"",
+        Some(TypeName::Boolean) => b"true",
+        Some(TypeName::DateTime) => b"\"2000-01-01T00:00:00Z\"",
     }
 }
 
-// Writes a value of a named type that meets only the named types that take all of it: a schema that is no string.
-pub fn write_apart(name: TypeName, out: &mut [u8]) -> usize
-    requires { length (spell (apart_by (type_of name))) ≤ length out.old }
-    ensures { Writes (spell (apart_by (type_of name))) result out.old out.new }
+// A value of a named type that meets only the named types that take all of it: a schema that is no string.
+#[tactic(auto, unfolding(writer::specs::Spell::spell_char, grammar::specs::Utf8::utf8))]
+pub fn apart_bytes(name: Option<TypeName>) -> &'static [u8]
+    ensures { result.now ≡ spell (apart_by name) }
 {
     match name {
-        TypeName::Schema => write_bytes(b"{\"Array\":\"JSON\"}", out),
-        _ => write_plain(name, out),
+        Some(TypeName::Schema) => b"{\"Array\":\"JSON\"}",
+        _ => plain_bytes(name),
     }
 }
 

@@ -4,6 +4,7 @@ use mathlib.Core.Path.{sym}
 use mathlib.Core.List.{List, ◌++◌}
 use native.Mathlib.Omega.{arith}
 use lib.ListN.{length, set}
+use Rattle.std.specs.Prelude.{Option, Some}
 use Rattle.model.specs.Witness.{fresh}
 use Rattle.chars.specs.Strings.{characters}
 use Rattle.model.specs.Text.{text}
@@ -16,7 +17,7 @@ use Rattle.samples.specs.Writing.{Writes, LettersWritten, BeyondReady, BeyondWri
 use Rattle.samples.proofs.Lent.{left_of, put_back, wrote_two, Lent, lent, lent_more, lent_last}
 use Rattle.samples.proofs.fresh.Laws.{required_found, beyond_as, beyond_same, opened, is_null, fellows, beside_spelled, beside_long}
 
-module _ (s t : List ℕ) (r : ℕ) (out : List ℕ) (b : BeyondReady s t r (length out)) (g : GenericRow s t r Object) where
+module _ (s t : List ℕ) (r : ℕ) (out : List ℕ) (b : BeyondReady s t r (length out)) (g : GenericRow s t r (Some Object)) where
   abbrev given : Fielded s t r (bare b.row.definition)
   given = object_fields g b.row
 
@@ -63,5 +64,5 @@ module _ (s t : List ℕ) (r : ℕ) (out : List ℕ) (b : BeyondReady s t r (len
         beside_written = beyond_as (beyond_same b.row) (lent_last lent_all (omega arith) 0x7D (sym (beside_spelled given.is)))
 
   -- the fields whose members stand beside it
-  abbrev pub required_row : {f : ℕ} → Finds s t (r + 2) (characters (text "required")) f → FieldsRow s t f
+  abbrev pub required_row : {f : Option ℕ} → Finds s t (r + 2) (characters (text "required")) f → FieldsRow s t f
   required_row h = required_found g b.row h

@@ -3,17 +3,17 @@ use Prim.Native.Nat.{ℕ, zero, suc, ◌+◌, ◌-◌, ◌*◌, ◌≤◌, ◌<�
 use mathlib.Core.Path.{◌≡◌, refl, sym, ap, ap₂, ◌∙◌, subst}
 use mathlib.Core.Bool.{Bool, true, false, cond}
 use mathlib.Core.List.{List, [], ◌∷◌, ◌++◌, append_assoc, append-nil}
-use mathlib.Core.Option.{Option}
 use native.Mathlib.Numerals.{add-one}
 use native.Mathlib.Omega.{arith}
 use lib.ListN.{length, take, drop, get_or, set, length-set, length-append}
 use lib.Dec.{leb}
 use lib.Seq.{drop-cons, take_at, take-suc-set, set-set}
 use borrow.Author.Tests.{eq-eqb, ne_eqb, le-leb, lt-leb}
+use Rattle.std.specs.Prelude.{Option, Some, None}
 use Rattle.model.specs.Text.{text}
 use Rattle.model.specs.Value.{Members as Fellows}
 use Rattle.model.specs.Definition.{Named, Def, object-of, Fields}
-use Rattle.model.specs.Witness.{kept, behind, rarer, avoiding, names, own_names, fresh, begins, counted, beyond_named}
+use Rattle.model.specs.Witness.{kept, behind, rarer, avoiding, names, own_names, fresh, begins, counted, apart, beyond_named}
 use Rattle.model.proofs.Basics.{both}
 use Rattle.model.proofs.Samples.{others_fresh}
 use Rattle.model.proofs.Letters.{next_letter, letters_fewer, letters_from, letters_stop, letters_next, fresh_letters}
@@ -21,7 +21,6 @@ use Rattle.chars.specs.Strings.{characters, part}
 use Rattle.syntax.specs.Tree.{Members, no_member, member}
 use Rattle.syntax.specs.Rows.{row_words, sizes_members}
 use Rattle.syntax.specs.Grammar.{name_of}
-use Rattle.syntax.specs.Holding.{word}
 use Rattle.grammar.specs.Utf8.{utf8}
 use Rattle.writer.specs.Spell.{spell_char, spell_chars, spell}
 use Rattle.writer.specs.Compact.{over}
@@ -30,30 +29,21 @@ use Rattle.writer.proofs.Facts.{over_first, Wrote, wrote_byte}
 use Rattle.definitions.specs.Definitions.{Located, named-at, array_at, map_at, object-at, LocatedFields, fine, definition_at, fields_at, bare, bare_fields}
 use Rattle.rows.specs.Records.{Reads, PartRow}
 use Rattle.rows.specs.Finding.{Finds}
+use Rattle.rows.specs.Children.{Passes, Begins}
+use Rattle.rows.specs.declared.children.Children.{Children}
 use Rattle.definitions.specs.Shapes.{DefinedRow, type_in, TypeRow, generic_in, GenericRow, FieldsRow}
-use Rattle.comparison.specs.Carrying.{type_of}
 use Rattle.definitions.specs.declared.types.TypeName.{TypeName}
-use Rattle.definitions.specs.declared.types.Generic.{Generic}
-use Rattle.definitions.specs.declared.types.Generic.TheVariants.{Array, Map, Object, Other}
+use Rattle.definitions.specs.declared.types.Generic.TheVariants.{Array, Map, Object}
 use Rattle.rows.specs.declared.records.Record.{Record}
 use Rattle.rows.proofs.Facts.{row, as_row, part_object}
-use Rattle.definitions.proofs.Facts.{added_fine, in_array, in_map, FieldsLeft, FieldHere, fields_none, fields_start, fields_end, field_here}
-use Rattle.definitions.proofs.Facts.{spelled, fields_empty, same_fields, same_definition}
+use Rattle.definitions.proofs.Facts.{added_fine, in_array, in_map, FieldsLeft, FieldHere, fields_start, fields_end, field_here}
+use Rattle.definitions.proofs.Facts.{find_required, find_optional, fields_empty, same_fields, same_definition}
 use Rattle.comparison.proofs.Facts.{of_name}
-use Rattle.definitions.proofs.Facts.{object_fields}
-use Rattle.definitions.proofs.Facts.{required_fields}
-use Rattle.definitions.proofs.Facts.{optional_fields}
-use Rattle.definitions.proofs.Facts.{of-kind}
+use Rattle.definitions.proofs.Facts.{object_fields, required_fields, optional_fields}
 use Rattle.samples.proofs.Lent.{wrote, Lent, lent, lent_last}
 use Rattle.samples.specs.Writing.{Writes, apart_by, further, CountsFields, CountsNames, LettersReady, LettersWritten, BeyondReady, BeyondWritten}
 
 -- ---- a name that is compared with the letters p, up to the k-th
-
-pub begins_end : (p : List ℕ) (k : ℕ) (n : List ℕ) → length p ≤ k → begins (drop k p) n ≡ true
-begins_end [] zero n h = refl
-begins_end [] (suc k) n h = refl
-begins_end (c ∷ p) zero n h = absurd (omega arith)
-begins_end (c ∷ p) (suc k) n h = begins_end p k n (omega arith)
 
 module _ (p : List ℕ) (k : ℕ) (l : k < length p) {n : List ℕ} where
   pub begins_short : n ≡ [] → begins (drop k p) n ≡ false
@@ -68,67 +58,55 @@ module _ (p : List ℕ) (k : ℕ) (l : k < length p) {n : List ℕ} where
 
 -- ---- the names of the fields at row r, one after the other
 
--- before the one at row `here`, with `left` names not yet seen, n begin with p
-pub record Counting (s t : List ℕ) (r : ℕ) (p : List ℕ) (here left n : ℕ) : Type 0 where
+-- of those before the names that are left, n begin with p
+pub record Counting (s t : List ℕ) (r : ℕ) (p : List ℕ) (c : Children 1) (n : ℕ) : Type 0 where
   pub fields : LocatedFields
-  pub ahead : FieldsLeft s t r here left fields
-  pub few : n < here
-  pub stays : (f : FieldsRow s t r) → n + counted p (names (bare_fields fields)) ≡ counted p (names (bare_fields f.fields))
+  pub ahead : FieldsLeft s t (Some r) c fields
+  pub few : n < c.row
+  pub stays : (f : FieldsRow s t (Some r)) → n + counted p (names (bare_fields fields)) ≡ counted p (names (bare_fields f.fields))
 
-module _ {s t : List ℕ} {r : ℕ} {p : List ℕ} where
-  pub count_none : r ≡ 0 → CountsFields s t r p 0
-  count_none e = record { tells = λ f. rw (fields_none e f) refl }
-
-  pub count_start : (f : FieldsRow s t r) → 0 < r → {left : ℕ} → left ≡ word t r 3 → Counting s t r p (r + 1) left 0
-  count_start f l e = record {
+module _ {s t : List ℕ} {r : ℕ} {p : List ℕ} {c : Children 1} where
+  pub count_start : (f : FieldsRow s t (Some r)) → Begins t r c → Counting s t r p c 0
+  count_start f b = record {
     fields = f.fields;
-    ahead = fields_start f l e;
-    few = omega arith;
+    ahead = fields_start f b;
+    few = omega (arith, b.row);
     stays = λ g. omega (arith, ap (λ (fs : LocatedFields). counted p (names (bare_fields fs))) (same_fields f g));
   }
 
-  module _ {here left n : ℕ} (a : Counting s t r p here left n) where
-    pub count_end : left ≤ 0 → CountsFields s t r p n
+  module _ {n : ℕ} (a : Counting s t r p c n) where
+    pub count_end : c.left ≡ 0 → CountsFields s t (Some r) p n
     count_end l = record {
       tells = λ f. (let z : n + 0 ≡ counted p (names (bare_fields f.fields)) = rw (fields_end a.ahead l) at (a.stays f) in omega arith);
     }
 
-    module _ (l : 0 < left) where
-      abbrev pub this : FieldHere s t r here left a.fields
-      this = field_here a.ahead l
+    module _ {row : ℕ} {d : Children 1} (h : Passes c row d) where
+      abbrev pub this : FieldHere s t (Some r) row d a.fields
+      this = field_here a.ahead h
 
-      -- its name's row was read, and that of the definition behind it
-      module _ {x y : Record} (g : Reads t here x) (h : Reads t (here + 1) y) where
+      module _ {x : Record} (g : Reads t row x) {u : List ℕ} (w : u ≡ part s (x.first + 1) (x.end - 1)) where
         -- the name between its quotes counts by whether it begins with p
-        pub count_next : {u : List ℕ} → u ≡ part s (x.first + 1) (x.end - 1) → {b : Bool} → b ≡ begins p (characters u)
-            → {m : ℕ} → m ≡ cond b (n + 1) n → Counting s t r p y.next (left - 1) m
-        count_next w {b} e {m} q =
-            let rest = counted p (names (bare_fields this.others)) in
-            let z : b ≡ begins p (name_of s (word t here 1) (word t here 2)) = rw (w, g.first, g.last) at e in
-            let whole = ap (λ (fs : Fields). n + counted p (names fs)) this.is in
-            record {
-              fields = this.others;
-              ahead = this.behind h;
-              few = omega (arith, bound b q, h.next, a.few);
-              stays = λ f. sum b q rest ∙ ap (λ (b : Bool). n + cond b (suc rest) rest) z ∙ sym whole ∙ a.stays f;
-            }
-          where
-            bound : (b : Bool) → m ≡ cond b (n + 1) n → m ≤ n + 1
-            bound true q = omega arith
-            bound false q = omega arith
+        counts : {b : Bool} → b ≡ begins p (characters u)
+            → counted p (names (bare_fields a.fields)) ≡ cond b (suc (counted p (names (bare_fields this.others)))) (counted p (names (bare_fields this.others)))
+        counts e = ap (λ (fs : Fields). counted p (names fs)) this.is ∙ rw (sym (rw (w, g.first, g.last) at e))
 
-            sum : (b : Bool) → m ≡ cond b (n + 1) n → (k : ℕ) → m + k ≡ n + cond b (suc k) k
-            sum true q k = omega arith
-            sum false q k = omega arith
+        counting : {m : ℕ} → m ≤ n + 1 → n + counted p (names (bare_fields a.fields)) ≡ m + counted p (names (bare_fields this.others)) → Counting s t r p d m
+        counting l e = record { fields = this.others; ahead = this.behind; few = omega (arith, a.few, h.row); stays = λ f. sym e ∙ a.stays f }
+
+        pub count_more : true ≡ begins p (characters u) → Counting s t r p d (n + 1)
+        count_more e = counting (omega arith) (omega (arith, counts e))
+
+        pub count_same : false ≡ begins p (characters u) → Counting s t r p d n
+        count_same e = counting (omega arith) (omega (arith, counts e))
 
 -- ---- the names of an Object definition: those of its required fields, then those of its optional ones
 
-module _ {s t : List ℕ} {r : ℕ} (o : GenericRow s t r Object) (d : DefinedRow s t r) {v : ℕ} where
+module _ {s t : List ℕ} {r : ℕ} (o : GenericRow s t r (Some Object)) (d : DefinedRow s t r) {v : Option ℕ} where
   abbrev pub required_found : Finds s t (r + 2) (characters (text "required")) v → FieldsRow s t v
-  required_found f = required_fields o (rw spelled.required at f) d
+  required_found f = required_fields o (find_required f) d
 
   abbrev pub optional_found : Finds s t (r + 2) (characters (text "optional")) v → FieldsRow s t v
-  optional_found f = optional_fields o (rw spelled.optional at f) d
+  optional_found f = optional_fields o (find_optional f) d
 
 counted_append : (p : List ℕ) (ns ms : List (List ℕ)) → counted p (ns ++ ms) ≡ counted p ns + counted p ms
 counted_append p [] ms = omega arith
@@ -149,16 +127,16 @@ names_few s (member f e n ms) fs q =
     let k = added_fine f (name_of s f e) (definition_at s n) (fields_at s ms) fs q in
     rw k.adds (omega (arith, names_few s ms k.others k.define))
 
-part_few : {s t : List ℕ} {r : ℕ} (o : PartRow s t r) → row_words * sizes_members o.members ≤ length t
-part_few {r = zero} o = omega (arith, ap sizes_members (o.absent refl))
-part_few {r = suc r} o = omega (arith, (row (as_row (part_object o (omega arith)))).room)
+part_few : {s t : List ℕ} {r : Option ℕ} (o : PartRow s t r) → row_words * sizes_members o.members ≤ length t
+part_few {r = None} o = omega (arith, ap sizes_members (o.absent refl))
+part_few {r = Some r} o = omega (arith, (row (as_row (part_object o refl))).room)
 
 module _ {s t : List ℕ} {p : List ℕ} where
-  pub count_few : {r n : ℕ} → FieldsRow s t r → CountsFields s t r p n → row_words * n ≤ length t
+  pub count_few : {r : Option ℕ} {n : ℕ} → FieldsRow s t r → CountsFields s t r p n → row_words * n ≤ length t
   count_few f h =
       omega (arith, h.tells f, counted_few p (names (bare_fields f.fields)), names_few s f.part.members f.fields f.defines, part_few f.part)
 
-  pub count_both : {r v w n m : ℕ} (o : GenericRow s t r Object) → Finds s t (r + 2) (characters (text "required")) v
+  pub count_both : {r n m : ℕ} {v w : Option ℕ} (o : GenericRow s t r (Some Object)) → Finds s t (r + 2) (characters (text "required")) v
       → Finds s t (r + 2) (characters (text "optional")) w → CountsFields s t v p n → CountsFields s t w p m → CountsNames s t r p (n + m)
   count_both o f g h k = record {
     tells = λ d. rw ((object_fields o d).is, counted_append) (omega (arith, h.tells (required_found o d f), k.tells (optional_found o d g)));
@@ -319,43 +297,43 @@ module _ {s t : List ℕ} {r : ℕ} {w : List ℕ} (k : (d : DefinedRow s t r) �
   beyond_fits : {room : ℕ} → BeyondReady s t r room → length w ≤ room
   beyond_fits p = omega (arith, p.fits, ap length (k p.row))
 
-module _ {s t : List ℕ} {r : ℕ} {g : Generic} (h : GenericRow s t r g) where
-  beyond_array : g ≡ Array → (d : DefinedRow s t r) → spell (beyond_named (bare d.definition)) ≡ text "[]"
-  beyond_array e d = rw (in_array d (of-kind h e d)).is refl
+named_apart : (x : Located) → None ≡ generic_in x → spell (beyond_named (bare x)) ≡ spell (apart_by (type_in x))
+named_apart (named-at p t) z = sym (ap (λ (t : Named). spell (apart t)) (of_name t))
+named_apart (array_at p x) z = never (cc)
+named_apart (map_at p x) z = never (cc)
+named_apart (object-at p x y) z = never (cc)
 
-  pub beyond_array_fits : g ≡ Array → {room : ℕ} → BeyondReady s t r room → 2 ≤ room
-  beyond_array_fits e = beyond_fits (beyond_array e)
+module _ {s t : List ℕ} {r : ℕ} where
+  module _ (h : GenericRow s t r (Some Array)) where
+    beyond_array : (d : DefinedRow s t r) → spell (beyond_named (bare d.definition)) ≡ text "[]"
+    beyond_array d = rw (in_array d (h.tells d)).is refl
 
-  pub beyond_array_written : g ≡ Array → {n : ℕ} {out out₂ : List ℕ} → Writes (text "[]") n out out₂ → BeyondWritten s t r n out out₂
-  beyond_array_written e = beyond_as (beyond_array e)
+    pub beyond_array_fits : {room : ℕ} → BeyondReady s t r room → 2 ≤ room
+    beyond_array_fits = beyond_fits beyond_array
 
-  beyond_map : g ≡ Map → (d : DefinedRow s t r) → spell (beyond_named (bare d.definition)) ≡ text "{}"
-  beyond_map e d = rw (in_map d (of-kind h e d)).is refl
+    pub beyond_array_written : {n : ℕ} {out out₂ : List ℕ} → Writes (text "[]") n out out₂ → BeyondWritten s t r n out out₂
+    beyond_array_written = beyond_as beyond_array
 
-  pub beyond_map_fits : g ≡ Map → {room : ℕ} → BeyondReady s t r room → 2 ≤ room
-  beyond_map_fits e = beyond_fits (beyond_map e)
+  module _ (h : GenericRow s t r (Some Map)) where
+    beyond_map : (d : DefinedRow s t r) → spell (beyond_named (bare d.definition)) ≡ text "{}"
+    beyond_map d = rw (in_map d (h.tells d)).is refl
 
-  pub beyond_map_written : g ≡ Map → {n : ℕ} {out out₂ : List ℕ} → Writes (text "{}") n out out₂ → BeyondWritten s t r n out out₂
-  beyond_map_written e = beyond_as (beyond_map e)
+    pub beyond_map_fits : {room : ℕ} → BeyondReady s t r room → 2 ≤ room
+    beyond_map_fits = beyond_fits beyond_map
 
-  pub beyond_object : g ≡ Object → GenericRow s t r Object
-  beyond_object e = rw e at h
+    pub beyond_map_written : {n : ℕ} {out out₂ : List ℕ} → Writes (text "{}") n out out₂ → BeyondWritten s t r n out out₂
+    beyond_map_written = beyond_as beyond_map
 
-  module _ (e : g ≡ Other) {k : TypeName} (q : TypeRow s t r k) where
-    beyond_name : (d : DefinedRow s t r) → spell (beyond_named (bare d.definition)) ≡ spell (apart_by (type_of k))
-    beyond_name d = go d.definition (of-kind h e d) (q.tells d)
-      where
-        go : (x : Located) → Other ≡ generic_in x → k ≡ type_in x → spell (beyond_named (bare x)) ≡ spell (apart_by (type_of k))
-        go (named-at p t) z w = sym (ap (λ (k : TypeName). spell (apart_by (type_of k))) w ∙ ap (λ (m : Option Named). spell (apart_by m)) (of_name t))
-        go (array_at p x) z w = never (cc)
-        go (map_at p x) z w = never (cc)
-        go (object-at p x y) z w = never (cc)
+  -- w is the value that stands for the type name
+  module _ (h : GenericRow s t r None) {k : Option TypeName} (q : TypeRow s t r k) {w : List ℕ} (e : w ≡ spell (apart_by k)) where
+    beyond_name : (d : DefinedRow s t r) → spell (beyond_named (bare d.definition)) ≡ w
+    beyond_name d = named_apart d.definition (h.tells d) ∙ sym (e ∙ ap (λ (k : Option TypeName). spell (apart_by k)) (q.tells d))
 
-    pub beyond_name_fits : {room : ℕ} → BeyondReady s t r room → length (spell (apart_by (type_of k))) ≤ room
+    pub beyond_name_fits : {room : ℕ} → BeyondReady s t r room → length w ≤ room
     beyond_name_fits = beyond_fits beyond_name
 
-    pub beyond_name_written : (n : ℕ) (out out₂ : List ℕ) → Writes (spell (apart_by (type_of k))) n out out₂ → BeyondWritten s t r n out out₂
-    beyond_name_written n out out₂ = beyond_as beyond_name
+    pub beyond_name_written : {n : ℕ} {out out₂ : List ℕ} → Writes w n out out₂ → BeyondWritten s t r n out out₂
+    beyond_name_written = beyond_as beyond_name
 
 -- ---- an object with one member more: its name is fresh
 

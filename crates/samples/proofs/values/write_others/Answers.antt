@@ -1,19 +1,29 @@
--- `samples::values::write_others` meets its contract: an Object's required fields but the key.
-use borrow.Enum.Refused.{opened}
-use Rattle.samples.proofs.values.Laws.{body_row, body_fits, others_ready, others_written, others_none}
+-- `write_others` meets its contract: an Object's required fields but the key.
+use mathlib.Core.Path.{◌≡◌}
+use native.Mathlib.Omega.{arith}
+use Rattle.std.proofs.Common.{rules, Some, false}
+use Rattle.definitions.specs.Shapes.{GenericRow}
+use Rattle.definitions.specs.declared.types.Generic.TheVariants.{Object}
+use Rattle.definitions.proofs.Facts.{object_body, body_in}
+use Rattle.samples.proofs.values.Laws.{is_object, others_ready, others_written, others_none}
 use Rattle.samples.proofs.values.write_others.Goals as goal
 
-pub overflow_add-row : goal.overflow_add-row
-overflow_add-row c = search body_fits
+pub returns-then-ne : goal.returns-then-ne
+returns-then-ne c = let h : is_object c.generic_at.result ≡ false = search rules in others_none c.generic_at.ensures h
 
-pub find-fields-requires : goal.find-fields-requires
-find-fields-requires c = search body_row
+pub overflow_add-row : goal.overflow_add-row
+overflow_add-row c =
+    let h : GenericRow c.args.tree.text.now c.args.tree.table.now c.args.row (Some Object) = search rules in omega (arith, (body_in h c.requires.row).here)
+
+pub find-requires : goal.find-requires
+find-requires c =
+    let h : GenericRow c.args.tree.text.now c.args.tree.table.now c.args.row (Some Object) = search rules in object_body h c.requires.row
 
 pub write_fields-requires : goal.write_fields-requires
-write_fields-requires c = search others_ready
+write_fields-requires c =
+    let h : GenericRow c.args.tree.text.now c.args.tree.table.now c.args.row (Some Object) = search rules in others_ready h c.find.ensures c.requires
 
-pub returns-in-Object : goal.returns-in-Object
-returns-in-Object c = search others_written
-
-pub returns-in_default : goal.returns-in_default
-returns-in_default c = search (others_none, opened c.in_default.in_default-own.keys2)
+pub returns : goal.returns
+returns c =
+    let h : GenericRow c.args.tree.text.now c.args.tree.table.now c.args.row (Some Object) = search rules in
+    others_written h c.find.ensures c.write_fields.ensures
