@@ -5,7 +5,7 @@ use mathlib.Core.Bool.{false}
 use mathlib.Core.Option.{some}
 use mathlib.Core.List.{List}
 use native.Mathlib.Omega.{arith}
-use borrow.Author.Tests.{le-leb, ne_eqb}
+use borrow.Author.Tests.{le-leb}
 use Rattle.model.specs.Definition.{Def, definition_of}
 use Rattle.model.specs.Meeting.{Meets}
 use Rattle.model.specs.Subtype.{subtype}
@@ -21,7 +21,7 @@ use Rattle.syntax.proofs.Theorems.{read_json, read_placed}
 use Rattle.writer.specs.Spell.{spell}
 use Rattle.writer.proofs.Theorems.{spell_reads}
 use Rattle.definitions.specs.Definitions.{Located, bare}
-use Rattle.schema.specs.Judging.{mismatch_at}
+use Rattle.schema.specs.Judging.{nothing, mismatch_at}
 use Rattle.schema.specs.Checking.{read_document, mismatch_answer, check_answer}
 use Rattle.definitions.specs.Accepting.{accept}
 use Rattle.comparison.specs.Comparing.{Schema}
@@ -61,9 +61,9 @@ module _ (d : List ℕ) (n : Node) (e : ℕ) (q : read_document d ≡ parsed n e
   check_fails : (¬ Meets a (value_of d n)) → (20 ≤ (check_answer w₁ w₂ d s).code) × ((check_answer w₁ w₂ d s).code ≤ 22)
   check_fails m =
       let l = located in
-      let f : (mismatch_at d l.0 n).code ≡ 0 → ⊥ =
+      let f : mismatch_at d l.0 n ≡ nothing → ⊥ =
       λ z. m (subst (λ (c : Def). Meets c (value_of d n)) l.2 (nothing_meets d l.0 n (read_placed 65536 32 d n e q) (read_json 65536 32 d n e q) z)) in
-      rw (l.1, ne_eqb (mismatch_at d l.0 n).code 0 f) (mismatch_codes d l.0 n f)
+      rw l.1 (mismatch_codes (mismatch_at d l.0 n) f)
 
 -- ---- the document
 

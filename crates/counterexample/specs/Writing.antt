@@ -1,6 +1,5 @@
 -- For private contracts: of each writer of a document what it is given, with room for what it writes (`..Ready`), and what it leaves, where it wrote n bytes (`..Written`).
-use Rattle.std.specs.Prelude.{ℕ, ◌≤◌, true, false, cond, List, length}
-use Rattle.std.proofs.Math.Option.{Option, none, some}
+use Rattle.std.specs.Prelude.{ℕ, ◌≤◌, true, false, cond, List, length, Option, Some, None}
 use Rattle.model.specs.Value.{Value}
 use Rattle.model.specs.Definition.{Def, named, array_of, map_of, object-of}
 use Rattle.model.specs.Subtype.{of_objects, requires, under}
@@ -19,19 +18,19 @@ use Rattle.samples.specs.Writing.{Writes}
 
 -- of the fields that fail, the first that is required and the first that is optional: the one under whose name the witness fails; none where each sample does
 abbrev pub failing_of : Def → Option (List ℕ × Def) → Option (List ℕ × Def) → Option (List ℕ × Def)
-failing_of a none y = y
-failing_of a (some f) y = cond (requires a f.0) (some f) none
+failing_of a None y = y
+failing_of a (Some f) y = cond (requires a f.0) (Some f) None
 
 -- so against the definition b, which is the second
 abbrev pub failing : Def → Def → Option (List ℕ × Def)
-failing a (named t) = none
-failing a (array_of q) = none
-failing a (map_of q) = none
-failing a (object-of r o) = cond (of_objects a) (failing_of a (first_failing true a r) (first_failing false a o)) none
+failing a (named t) = None
+failing a (array_of q) = None
+failing a (map_of q) = None
+failing a (object-of r o) = cond (of_objects a) (failing_of a (first_failing true a r) (first_failing false a o)) None
 
--- the row v of that name in the old schema, and 0 where there is none
-pub record FailingName (s₁ s₂ t₁ t₂ : List ℕ) (r₁ r₂ v : ℕ) : Type 0 where
-  pub tells : (p : Pairing s₁ s₂ t₁ t₂ r₁ r₂) → Fails s₂ t₂ r₂ v (failing (bare p.new.definition) (bare p.old.definition))
+-- the row v of that name in the old schema, where there is one
+pub record FailingName (s₁ s₂ t₁ t₂ : List ℕ) (r₁ r₂ : ℕ) (v : Option ℕ) : Type 0 where
+  pub tells : (p : Pairing s₁ s₂ t₁ t₂ r₁ r₂) → Fails s₂ t₂ (Some r₂) v (failing (bare p.new.definition) (bare p.old.definition))
 
 -- the witness itself
 pub record WitnessReady (s₁ s₂ t₁ t₂ : List ℕ) (r₁ r₂ room : ℕ) : Type 0 where
@@ -41,7 +40,7 @@ pub record WitnessReady (s₁ s₂ t₁ t₂ : List ℕ) (r₁ r₂ room : ℕ) 
 -- the old one is of the generic type g
 pub record WitnessTo (s₁ s₂ t₁ t₂ : List ℕ) (r₁ r₂ room : ℕ) (g : Generic) : Type 0 where
   pub given : WitnessReady s₁ s₂ t₁ t₂ r₁ r₂ room
-  pub is : GenericRow s₂ t₂ r₂ g
+  pub is : GenericRow s₂ t₂ r₂ (Some g)
 
 pub record WitnessWritten (s₁ s₂ t₁ t₂ : List ℕ) (r₁ r₂ n : ℕ) (out out₂ : List ℕ) : Type 0 where
   pub tells : (p : Pairing s₁ s₂ t₁ t₂ r₁ r₂) → Writes (spell (witness (bare p.new.definition) (bare p.old.definition))) n out out₂
@@ -59,8 +58,8 @@ pub record MemberWritten (s₁ s₂ t₁ t₂ : List ℕ) (r₁ r₂ n : ℕ) (o
   pub tells : (p : FieldPairing s₁ s₂ t₁ t₂ r₁ r₂)
       → Writes (spell (failing_value (bare p.new.definition) (name_of s₂ (word t₂ r₂ 1) (word t₂ r₂ 2)) (bare p.old.definition))) n out out₂
 
--- the value under that name, for which row v of the new schema was found
-pub record UnderReady (s₁ s₂ t₁ t₂ : List ℕ) (r₁ v r₂ room : ℕ) : Type 0 where
+-- the value under that name, for which row v of the new schema was found, or none
+pub record UnderReady (s₁ s₂ t₁ t₂ : List ℕ) (r₁ : ℕ) (v : Option ℕ) (r₂ room : ℕ) : Type 0 where
   pub pair : FieldPairing s₁ s₂ t₁ t₂ r₁ r₂
   pub finds : FindsUnder s₁ t₁ r₁ (name_of s₂ (word t₂ r₂ 1) (word t₂ r₂ 2)) false v
   pub fits : length (spell (witness (under (bare pair.new.definition) (name_of s₂ (word t₂ r₂ 1) (word t₂ r₂ 2))) (bare pair.old.definition))) ≤ room

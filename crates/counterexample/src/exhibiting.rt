@@ -7,6 +7,7 @@ ghost use Rattle.counterexample.specs.Counterexample.{Promises, table_unless_sho
 
 use crate::witnesses::write_witness;
 use comparison::compare;
+use rows::Tree;
 use syntax::Answer;
 
 // Compares a new schema with an old one, and on 30 writes the document.
@@ -28,6 +29,14 @@ pub fn counterexample(
     if compared.code != 30 {
         return compared;
     }
-    let n = write_witness(new, old, table1, table2, 0, 0, buffer);
+    let new = Tree {
+        text: new,
+        table: table1,
+    };
+    let old = Tree {
+        text: old,
+        table: table2,
+    };
+    let n = write_witness(new, old, 0, 0, buffer);
     Answer::new(30, 0, 0, n as u32)
 }

@@ -87,34 +87,24 @@ module _ (s₁ s₂ t₁ t₂ buffer : List ℕ) where
   short l e = rw (lt-ltb (length buffer) 65536 l) (record { short = λ _. (e, refl); long = λ m. absurd (omega arith) }, (refl, refl))
 
 -- the buffer is long enough: c is Compare's answer, and the tables are as it leaves them
-pub record HasCompared (s₁ s₂ t₁ t₂ buffer : List ℕ) (c : Answer) (u₁ u₂ : List ℕ) : Type 0 where
-  long : 65536 ≤ length buffer
-  compares : Compares (length t₁) (length t₂) s₁ s₂ c
-  rows₁ : u₁ ≡ table_of t₁ (read_schema s₁)
-  rows₂ : u₂ ≡ compare_table (length t₁) t₂ s₁ s₂
-
-pub has_compared : {s₁ s₂ t₁ t₂ buffer : List ℕ} → 65536 ≤ length buffer → {c : Answer} {u₁ u₂ : List ℕ}
-    → Compares (length t₁) (length t₂) s₁ s₂ c × ((u₁ ≡ table_of t₁ (read_schema s₁)) × (u₂ ≡ compare_table (length t₁) t₂ s₁ s₂))
-    → HasCompared s₁ s₂ t₁ t₂ buffer c u₁ u₂
-has_compared l h = record { long = l; compares = h.0; rows₁ = h.1.0; rows₂ = h.1.1 }
-
-module _ {s₁ s₂ t₁ t₂ buffer : List ℕ} {c : Answer} {u₁ u₂ : List ℕ} (h : HasCompared s₁ s₂ t₁ t₂ buffer c u₁ u₂) where
+module _ (t₁ t₂ buffer : List ℕ) (long : 65536 ≤ length buffer) {s₁ s₂ : List ℕ} {c : Answer} (compares : Compares (length t₁) (length t₂) s₁ s₂ c)
+    {u₁ u₂ : List ℕ} (rows₁ : u₁ ≡ table_of t₁ (read_schema s₁)) (rows₂ : u₂ ≡ compare_table (length t₁) t₂ s₁ s₂) where
   -- the document d is shown on 30
   promised : (d : List ℕ) → (c.code ≡ 30 → Shows s₁ s₂ d) → {r : Answer} → r ≡ example_answer c d → {buffer₂ : List ℕ} → buffer₂ ≡ example_buffer c d buffer
       → Promised s₁ s₂ t₁ t₂ buffer r u₁ u₂ buffer₂
   promised d f e g =
       let x : Promises (length t₁) (length t₂) s₁ s₂ _ buffer _ = record {
-        short = λ l. absurd (omega (arith, h.long));
-        long = λ _. record { comparison = c; compares = h.compares; document = d; shows = f; answers = e; writes = g };
+        short = λ l. absurd (omega (arith, long));
+        long = λ _. record { comparison = c; compares = compares; document = d; shows = f; answers = e; writes = g };
       } in
-      rw (le-ltb (length buffer) 65536 h.long) (x, (h.rows₁, h.rows₂))
+      rw (le-ltb (length buffer) 65536 long) (x, (rows₁, rows₂))
 
   pub as_compared : (c.code ≡ 30 → ⊥) → Promised s₁ s₂ t₁ t₂ buffer c u₁ u₂ buffer
   as_compared n = promised [] (λ z. absurd (n z)) (rw (ne_eqb c.code 30 n) refl) (rw (ne_eqb c.code 30 n) refl)
 
   module _ (z : c.code ≡ 30) where
     both : Apart (length t₁) (length t₂) s₁ s₂ c
-    both = apart h.compares z
+    both = apart compares z
 
     -- the document
     abbrev shown : List ℕ
@@ -126,20 +116,20 @@ module _ {s₁ s₂ t₁ t₂ buffer : List ℕ} {c : Answer} {u₁ u₂ : List 
     -- the old schema was reached
     old_rows : u₂ ≡ table_of t₂ (read_schema s₂)
     unfolding compare_table
-    old_rows = rw both.accepts at h.rows₂
+    old_rows = rw both.accepts at rows₂
 
     pair : Pairing s₁ s₂ (table_of t₁ (read_schema s₁)) (table_of t₂ (read_schema s₂)) 0 0
     pair = record { new = as_row t₁ both.takes_new; old = as_row t₂ both.takes_old }
 
     pub ready : WitnessReady s₁ s₂ u₁ u₂ 0 0 (length buffer)
     unfolding pair
-    ready = rw (h.rows₁, old_rows) (record { pair = pair; fits = omega (arith, shown_fits, h.long) })
+    ready = rw (rows₁, old_rows) (record { pair = pair; fits = omega (arith, shown_fits, long) })
 
     -- and n bytes are written
     module _ {n : ℕ} {buffer₂ : List ℕ} (k : WitnessWritten s₁ s₂ u₁ u₂ 0 0 n buffer buffer₂) where
       written : Writes shown n buffer buffer₂
       unfolding pair
-      written = (rw (h.rows₁, old_rows) at k).tells pair
+      written = (rw (rows₁, old_rows) at k).tells pair
 
       pub written_fits : n ≤ 65536
       written_fits = omega (arith, written.0, shown_fits)

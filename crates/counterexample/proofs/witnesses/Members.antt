@@ -1,13 +1,11 @@
 -- An object that fails under one name, on plain values: the name, the value under it and the other members. For `write_failing` and `write_under`.
-use Prim.Native.Nat.{ℕ, ◌+◌, ◌-◌, ◌^◌, ◌≤◌, ◌<◌}
+use Prim.Native.Nat.{ℕ, ◌+◌, ◌-◌, ◌≤◌, ◌<◌}
 use mathlib.Core.Path.{◌≡◌, refl, sym, ap, ◌∙◌, subst}
 use mathlib.Core.Bool.{false}
-use mathlib.Core.Option.{Option, none, some}
 use mathlib.Core.List.{List, [], ◌∷◌, ◌++◌, append_assoc}
 use native.Mathlib.Omega.{arith}
-use mir.Syntax.{w64}
-use mir.Val.{Fits}
 use lib.ListN.{length, length-append, set}
+use Rattle.std.specs.Prelude.{Option, Some, None}
 use Rattle.model.specs.Text.{text}
 use Rattle.model.specs.Value.{Value, null, object, mcons, Members}
 use Rattle.model.specs.Definition.{JSON, Def, named}
@@ -23,7 +21,6 @@ use Rattle.comparison.specs.Fields.{definition_under, Gives, FindsUnder}
 use Rattle.comparison.specs.Carrying.{Pairing, FieldPairing}
 use Rattle.rows.specs.Records.{Reads}
 use Rattle.rows.specs.declared.records.Record.{Record}
-use Rattle.rows.proofs.Facts.{in_table}
 use Rattle.definitions.proofs.Facts.{same_definition}
 use Rattle.comparison.proofs.Facts.{or_def}
 use Rattle.samples.specs.Writing.{Writes, name_bytes, further, OthersReady, OthersWritten}
@@ -81,92 +78,102 @@ module _ {s₁ s₂ t₁ t₂ : List ℕ} {r₁ r₂ : ℕ} where
           length-append (name_out p) (under_out p),
         )
 
-    -- behind the name, behind the value, and behind the other members
-    abbrev pub Named : List ℕ → ℕ → List ℕ → Type 0
-    Named out n u = Lent out n u (name_out k.pair) (length (under_out k.pair) + length (others_out k.pair) + 1)
-
-    abbrev pub Valued : List ℕ → ℕ → List ℕ → Type 0
-    Valued out n u = Lent out n u (name_out k.pair ++ under_out k.pair) (length (others_out k.pair) + 1)
-
-    abbrev pub Complete : List ℕ → ℕ → List ℕ → Type 0
-    Complete out n u = Lent out n u ((name_out k.pair ++ under_out k.pair) ++ others_out k.pair) 1
-
     -- the name's row was read as x
-    module _ {x : Record} (q : Reads t₂ r₂ x) where
-      pub member_name_ready : NameReady s₂ x.first room 0x7B
-      member_name_ready = rw q.first (record { end = word t₂ r₂ 2; quoted = k.pair.quoted; fits = omega (arith, member_fits) })
+    pub member_name_ready : {x : Record} → Reads t₂ r₂ x → NameReady s₂ x.first room 0x7B
+    member_name_ready q = rw q.first (record { end = word t₂ r₂ 2; quoted = k.pair.quoted; fits = omega (arith, member_fits) })
 
-      pub behind_name : {out : List ℕ} {n : ℕ} {u : List ℕ} → NameWritten s₂ x.first 0x7B n out u → room ≡ length out → Named out n u
-      behind_name h e = let w = (rw q.first at h).tells (word t₂ r₂ 2) k.pair.quoted in lent (wrote w) (omega (arith, member_fits, w.0))
+  module _ {out : List ℕ} (k : MemberReady s₁ s₂ t₁ t₂ r₁ r₂ (length out)) {x : Record} (q : Reads t₂ r₂ x) where
+    -- the name is written
+    module _ {n : ℕ} {u : List ℕ} (h : NameWritten s₂ x.first 0x7B n out u) where
+      behind_name : Lent out n u (name_out k.pair) (length (under_out k.pair) + length (others_out k.pair) + 1)
+      behind_name = let w = (rw q.first at h).tells (word t₂ r₂ 2) k.pair.quoted in lent (wrote w) (omega (arith, member_fits k, w.0))
+
+      pub name_within : n ≤ length u
+      name_within = omega (arith, behind_name.room, behind_name.same)
 
       -- z is what stands between its quotes
-      module _ {z : List ℕ} (b : z ≡ part s₂ (x.first + 1) (x.end - 1)) {out : List ℕ} {n : ℕ} {u : List ℕ} where
-        pub under_lent : Named out n u → {v : ℕ} → FindsUnder s₁ t₁ r₁ (characters z) false v → UnderReady s₁ s₂ t₁ t₂ r₁ v r₂ (length (left_of n u))
-        under_lent g f = record { pair = k.pair; finds = rw (b, q.first, q.last) at f; fits = omega (arith, g.left) }
+      pub under_lent : {z : List ℕ} → z ≡ part s₂ (x.first + 1) (x.end - 1) → {v : Option ℕ} → FindsUnder s₁ t₁ r₁ (characters z) false v
+          → UnderReady s₁ s₂ t₁ t₂ r₁ v r₂ (length (left_of n u))
+      under_lent b f = record { pair = k.pair; finds = rw (b, q.first, q.last) at f; fits = omega (arith, behind_name.left) }
 
-        pub others_lent : Valued out n u → OthersReady s₁ t₁ r₁ (characters z) (length (left_of n u))
-        others_lent g = rw (b, q.first, q.last) (record { row = k.pair.new; fits = omega (arith, g.left) })
+      -- and the value
+      module _ {j : ℕ} {y : List ℕ} (w : UnderWritten s₁ s₂ t₁ t₂ r₁ r₂ j (left_of n u) y) where
+        behind_value : Lent out (n + j) (put_back n u y) (name_out k.pair ++ under_out k.pair) (length (others_out k.pair) + 1)
+        behind_value = lent_more behind_name (under_out k.pair) (omega arith) (w.tells k.pair)
 
-        pub behind_others : Valued out n u → {j : ℕ} {y : List ℕ} → OthersWritten s₁ t₁ r₁ (characters z) j (left_of n u) y
-            → Complete out (n + j) (put_back n u y)
-        behind_others g o = lent_more g (others_out k.pair) (omega arith) ((rw (b, q.first, q.last) at o).tells k.pair.new)
+        pub value_room : n + j ≤ length out
+        value_room = omega (arith, behind_value.room)
 
-    module _ {out : List ℕ} {n : ℕ} {u : List ℕ} where
-      pub behind_value : Named out n u → {j : ℕ} {y : List ℕ} → UnderWritten s₁ s₂ t₁ t₂ r₁ r₂ j (left_of n u) y → Valued out (n + j) (put_back n u y)
-      behind_value g w = lent_more g (under_out k.pair) (omega arith) (w.tells k.pair)
+        pub value_within : n + j ≤ length (put_back n u y)
+        value_within = omega (arith, behind_value.room, behind_value.same)
 
-      pub member_same : Complete out n u → length (set u n 0x7D) ≡ length out
-      member_same g = last_same g 0x7D
+        module _ {z : List ℕ} (b : z ≡ part s₂ (x.first + 1) (x.end - 1)) where
+          pub others_lent : OthersReady s₁ t₁ r₁ (characters z) (length (left_of (n + j) (put_back n u y)))
+          others_lent = rw (b, q.first, q.last) (record { row = k.pair.new; fits = omega (arith, behind_value.left) })
 
-      pub member_closed : Complete out n u → MemberWritten s₁ s₂ t₁ t₂ r₁ r₂ (n + 1) out (set u n 0x7D)
-      member_closed g = record { tells = λ q. lent_last g (omega arith) 0x7D (member_spelled k.pair q) }
+          -- and the other members
+          module _ {l : ℕ} {m : List ℕ} (o : OthersWritten s₁ t₁ r₁ (characters z) l (left_of (n + j) (put_back n u y)) m) where
+            behind_others : Lent out (n + j + l) (put_back (n + j) (put_back n u y) m) ((name_out k.pair ++ under_out k.pair) ++ others_out k.pair) 1
+            behind_others = lent_more behind_value (others_out k.pair) (omega arith) ((rw (b, q.first, q.last) at o).tells k.pair.new)
+
+            pub member_room : n + j + l + 1 ≤ length out
+            member_room = omega (arith, behind_others.room)
+
+            pub member_closes : n + j + l < length (put_back (n + j) (put_back n u y) m)
+            member_closes = omega (arith, behind_others.room, behind_others.same)
+
+            pub member_same : length (set (put_back (n + j) (put_back n u y) m) (n + j + l) 0x7D) ≡ length out
+            member_same = last_same behind_others 0x7D
+
+            pub member_closed : MemberWritten s₁ s₂ t₁ t₂ r₁ r₂ (n + j + l + 1) out (set (put_back (n + j) (put_back n u y) m) (n + j + l) 0x7D)
+            member_closed = record { tells = λ q. lent_last behind_others (omega arith) 0x7D (member_spelled k.pair q) }
 
   -- what is asked under the name, by what was found there
-  module _ {v room : ℕ} (k : UnderReady s₁ s₂ t₁ t₂ r₁ v r₂ room) where
+  module _ {v : Option ℕ} {room : ℕ} (k : UnderReady s₁ s₂ t₁ t₂ r₁ v r₂ room) where
     abbrev asked : Def
     asked = under (bare k.pair.new.definition) (name_in k.pair)
 
-    found : 0 < v → (d : DefinedRow s₁ t₁ v) × (bare d.definition ≡ asked)
-    found l =
+    under_written : {n : ℕ} {out out₂ : List ℕ} → Writes (spell (under_of k.pair)) n out out₂ → UnderWritten s₁ s₂ t₁ t₂ r₁ r₂ n out out₂
+    under_written w = record { tells = λ q. rw (same_definition q.new k.pair.new, same_definition q.old k.pair.old) w }
+
+  -- a definition at row v
+  module _ {v room : ℕ} (k : UnderReady s₁ s₂ t₁ t₂ r₁ (Some v) r₂ room) where
+    found : (d : DefinedRow s₁ t₁ v) × (bare d.definition ≡ asked k)
+    found =
         let x = go (definition_under false (bare k.pair.new.definition) (name_in k.pair)) (k.finds.tells k.pair.new) in
         (x.0, x.1 ∙ sym (under_found (bare k.pair.new.definition) (name_in k.pair)))
       where
-        go : (o : Option Def) → Gives s₁ t₁ v o → (d : DefinedRow s₁ t₁ v) × (bare d.definition ≡ or_def (named JSON) o)
-        go none g = absurd (omega arith)
-        go (some d) g = (g.1, g.2)
+        go : (o : Option Def) → Gives s₁ t₁ (Some v) o → (d : DefinedRow s₁ t₁ v) × (bare d.definition ≡ or_def (named JSON) o)
+        go None g = absurd g
+        go (Some d) g = (g.1, g.2)
 
-    not_found : v ≤ 0 → under_of k.pair ≡ null
-    not_found l =
+    abbrev under_pair : Pairing s₁ s₂ t₁ t₂ v (r₂ + 1)
+    under_pair = record { new = found.0; old = k.pair.old }
+
+    under_value : under_of k.pair ≡ witness_of under_pair
+    under_value = ap (λ (d : Def). witness d (bare k.pair.old.definition)) (sym found.1)
+
+    pub under_ready : WitnessReady s₁ s₂ t₁ t₂ v (r₂ + 1) room
+    under_ready = record { pair = under_pair; fits = subst (λ (v : Value). length (spell v) ≤ room) under_value k.fits }
+
+    pub under_witness : {n : ℕ} {out out₂ : List ℕ} → WitnessWritten s₁ s₂ t₁ t₂ v (r₂ + 1) n out out₂ → UnderWritten s₁ s₂ t₁ t₂ r₁ r₂ n out out₂
+    under_witness w = under_written k (rw under_value (w.tells under_pair))
+
+  -- none: JSON
+  module _ {room : ℕ} (k : UnderReady s₁ s₂ t₁ t₂ r₁ None r₂ room) where
+    not_found : under_of k.pair ≡ null
+    not_found =
         ap (λ (d : Def). witness d (bare k.pair.old.definition))
         (under_found (bare k.pair.new.definition) (name_in k.pair)
         ∙ go (definition_under false (bare k.pair.new.definition) (name_in k.pair)) (k.finds.tells k.pair.new))
         ∙ witness_json (bare k.pair.old.definition)
       where
-        go : (o : Option Def) → Gives s₁ t₁ v o → or_def (named JSON) o ≡ named JSON
-        go none g = refl
-        go (some d) g = absurd (omega arith)
+        go : (o : Option Def) → Gives s₁ t₁ None o → or_def (named JSON) o ≡ named JSON
+        go None g = refl
+        go (Some d) g = absurd g
 
-    pub under_fits : length t₂ < 2 ^ 64 → Fits w64 (r₂ + 1)
-    under_fits b = record { fits = omega (arith, (in_table k.pair.old.row).here) }
+    pub null_fits : 4 ≤ room
+    null_fits = omega (arith, k.fits, ap (λ (v : Value). length (spell v)) not_found)
 
-    module _ (l : 0 < v) where
-      abbrev under_pair : Pairing s₁ s₂ t₁ t₂ v (r₂ + 1)
-      under_pair = record { new = (found l).0; old = k.pair.old }
-
-      under_value : under_of k.pair ≡ witness_of under_pair
-      under_value = ap (λ (d : Def). witness d (bare k.pair.old.definition)) (sym (found l).1)
-
-      pub under_ready : WitnessReady s₁ s₂ t₁ t₂ v (r₂ + 1) room
-      under_ready = record { pair = under_pair; fits = subst (λ (v : Value). length (spell v) ≤ room) under_value k.fits }
-
-    under_written : {n : ℕ} {out out₂ : List ℕ} → Writes (spell (under_of k.pair)) n out out₂ → UnderWritten s₁ s₂ t₁ t₂ r₁ r₂ n out out₂
-    under_written w = record { tells = λ q. rw (same_definition q.new k.pair.new, same_definition q.old k.pair.old) w }
-
-    pub under_witness : 0 < v → {n : ℕ} {out out₂ : List ℕ} → WitnessWritten s₁ s₂ t₁ t₂ v (r₂ + 1) n out out₂ → UnderWritten s₁ s₂ t₁ t₂ r₁ r₂ n out out₂
-    under_witness l w = under_written (rw (under_value l) (w.tells (under_pair l)))
-
-    pub null_fits : v ≤ 0 → 4 ≤ room
-    null_fits l = omega (arith, k.fits, ap (λ (v : Value). length (spell v)) (not_found l))
-
-    pub under_null : v ≤ 0 → {n : ℕ} {out out₂ : List ℕ} → Writes (text "null") n out out₂ → UnderWritten s₁ s₂ t₁ t₂ r₁ r₂ n out out₂
-    under_null l w = under_written (rw (not_found l) w)
+    pub under_null : {n : ℕ} {out out₂ : List ℕ} → Writes (text "null") n out out₂ → UnderWritten s₁ s₂ t₁ t₂ r₁ r₂ n out out₂
+    under_null w = under_written k (rw not_found w)
