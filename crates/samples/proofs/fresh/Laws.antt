@@ -179,9 +179,6 @@ module _ {s t : List ℕ} {r : ℕ} {before : List ℕ} {n : ℕ} {out : List �
   pub letters_same : length out ≡ length before
   letters_same = letters_lent.same
 
-  pub letters_in : n ≤ length out
-  letters_in = omega (arith, letters_lent.room, letters_lent.same)
-
   prefix : take n out ≡ g.done
   prefix = ap (take n) g.wrote.holds ∙ take_at g.done (drop (length g.done) before) n (sym g.wrote.count)
 

@@ -4,7 +4,7 @@ use mathlib.Core.Path.{◌≡◌, refl, sym, ap, ◌∙◌}
 use mathlib.Core.Bool.{Bool, true, false}
 use mathlib.Core.List.{List, [], ◌∷◌, ◌++◌, append_assoc, append-nil}
 use native.Mathlib.Omega.{arith}
-use lib.ListN.{length, set, length-set, length-append}
+use lib.ListN.{length, set, length-append}
 use Rattle.std.specs.Prelude.{Option, Some, None}
 use Rattle.model.specs.Text.{text}
 use Rattle.model.specs.Value.{object, Members, mnil, mcons}
@@ -14,7 +14,6 @@ use Rattle.chars.specs.Strings.{characters}
 use Rattle.syntax.specs.Grammar.{name_of}
 use Rattle.syntax.specs.Holding.{word}
 use Rattle.writer.specs.Spell.{spell, spell_members}
-use Rattle.writer.specs.Compact.{over}
 use Rattle.model.proofs.Basics.{never}
 use Rattle.writer.proofs.Facts.{Wrote, wrote_none, over_byte}
 use Rattle.definitions.specs.Definitions.{Located, named-at, array_at, map_at, object-at, LocatedFields, bare, bare_fields}
@@ -145,11 +144,6 @@ further_field : (m : List ℕ) (d : Def) (ms : Members) → further (mcons m (sa
 further_field m d ms = ap (◌∷◌ 0x2C) (simp append_assoc)
 
 -- the object of the members ms, of which `further ms` is written
-object_empty : (out : List ℕ) (ms : Members) {mid : List ℕ} {n : ℕ} → Writes (further ms) n out mid → n ≡ 0
-    → {k : ℕ} {out₂ : List ℕ} → Writes (text "{}") k mid out₂ → Writes (spell (object ms)) k out out₂
-object_empty out mnil g e w = (w.0, w.1 ∙ ap (over (text "{}")) g.1)
-object_empty out (mcons n v ms) g e w = absurd (omega (arith, g.0))
-
 object_closed : (out : List ℕ) (ms : Members) {mid : List ℕ} {n : ℕ} → Writes (further ms) n out mid → (n ≡ 0 → ⊥) → n < length out
     → Writes (spell (object ms)) (n + 1) out (set (set mid 0 0x7B) n 0x7D)
 object_closed out mnil g z l = absurd (z g.0)
@@ -173,24 +167,6 @@ module _ {s t : List ℕ} {r : Option ℕ} {n : ℕ} {out mid : List ℕ}
   required_lent : Lent out n mid (further members) 1
   required_lent = lent (wrote (k.tells p.row)) (omega (arith, (k.tells p.row).0, p.fits, further_room members))
 
-  pub required_least : 2 ≤ length mid
-  required_least = omega (arith, required_lent.same, p.fits, length-append (spell_members members) (0x7D ∷ []))
-
-  pub required_opens : 0 < length mid
-  required_opens = omega (arith, required_least)
-
-  pub required_closes : n < length (set mid 0 0x7B)
-  required_closes = simp length-set (omega (arith, required_lent.room, required_lent.same))
-
-  pub required_room : n + 1 ≤ length out
-  required_room = required_lent.room
-
-  pub required_same : length (set (set mid 0 0x7B) n 0x7D) ≡ length out
-  required_same = simp length-set required_lent.same
-
-  pub required_empty : n ≡ 0 → {j : ℕ} {out₂ : List ℕ} → Writes (text "{}") j mid out₂ → RequiredWritten s t r j out out₂
-  required_empty e w = record { tells = λ f. object_empty out (kept (λ m. true) (bare_fields f.fields)) (k.tells f) e w }
-
   pub required_closed : (n ≡ 0 → ⊥) → RequiredWritten s t r (n + 1) out (set (set mid 0 0x7B) n 0x7D)
   required_closed z = record { tells = λ f. object_closed out (kept (λ m. true) (bare_fields f.fields)) (k.tells f) z (omega (arith, required_lent.room)) }
 
@@ -210,9 +186,6 @@ module _ {s t : List ℕ} {r : ℕ} {x : Record} {n : ℕ} {out mid : List ℕ}
   named : Lent out n mid (name_bytes 0x2C (name_of s (word t r 1) (word t r 2))) (length (sample_bytes p.row))
   named = let w = (rw q.first at k).tells (word t r 2) p.quoted in lent (wrote w) (omega (arith, field_bytes_lem p, w.0))
 
-  pub named_within : n ≤ length mid
-  named_within = omega (arith, named.room, named.same)
-
   pub value_ready : SampleReady s t (r + 1) (length (left_of n mid))
   value_ready = record { row = p.row; fits = named.left }
 
@@ -223,9 +196,6 @@ module _ {s t : List ℕ} {r : ℕ} {x : Record} {n : ℕ} {out mid : List ℕ}
 
     pub field_room : n + j ≤ length out
     field_room = omega (arith, valued.room)
-
-    pub field_same : length (put_back n mid y) ≡ length out
-    field_same = valued.same
 
     pub field_written : FieldWritten s t r (n + j) out (put_back n mid y)
     field_written = record {
@@ -253,18 +223,11 @@ module _ {s t : List ℕ} {r : ℕ} {but : Option (List ℕ)} {c : Children 1} {
   }
 
   module _ {n : ℕ} {out : List ℕ} (a : InFields s t r but c before n out) where
-    module _ (p : FieldsReady s t (Some r) but (length before)) where
-      -- there is room for what is still to be written
-      in_lent : Lent before n out a.done (length (further (kept (keeps but) (bare_fields a.fields))))
-      in_lent =
-          let w = further (kept (keeps but) (bare_fields a.fields)) in
-          lent a.wrote (omega (arith, p.fits, a.wrote.count, ap length (a.splits p.row), length-append a.done w))
-
-      pub in_same : length out ≡ length before
-      in_same = in_lent.same
-
-      pub in_within : n ≤ length out
-      in_within = omega (arith, in_lent.room, in_lent.same)
+    -- there is room for what is still to be written
+    in_lent : FieldsReady s t (Some r) but (length before) → Lent before n out a.done (length (further (kept (keeps but) (bare_fields a.fields))))
+    in_lent p =
+        let w = further (kept (keeps but) (bare_fields a.fields)) in
+        lent a.wrote (omega (arith, p.fits, a.wrote.count, ap length (a.splits p.row), length-append a.done w))
 
     -- all are seen
     pub in_end : c.left ≡ 0 → FieldsWritten s t (Some r) but n before out
