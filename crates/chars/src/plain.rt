@@ -4,16 +4,11 @@ ghost use Rattle.chars.specs.Plain.{is_plain, plain_end};
 
 use crate::runs::run_end;
 
-// An arm for each byte, which are tested at once: with `matches!` and `&&` in its place Check of an array takes a sixth longer.
+#[tactic(auto, unfolding(crate::specs::Plain::is_plain))]
 pub fn is_plain(b: u8) -> bool
     ensures { result ≡ is_plain b }
 {
-    match b {
-        b'"' => false,
-        b'\\' => false,
-        0x20..=0x7f => true,
-        _ => false,
-    }
+    matches!(b, 0x20..=0x7f) && !matches!(b, b'"' | b'\\')
 }
 
 // The first place from `at` on that holds no such byte.

@@ -30,7 +30,7 @@ pub fn string_end(text: &[u8], at: usize) -> Reading<usize>
     }
 }
 
-// Whether two names have the same bytes.
+// Whether two names have the same bytes. (By `==`, a call, Compare of the widest schemas takes a third longer.)
 fn equal(a: &[u8], b: &[u8]) -> bool
     ensures { result ≡ same a.now b.now }
 {

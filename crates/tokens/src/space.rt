@@ -4,7 +4,7 @@ ghost use Rattle.tokens.specs.Space.{is_space, skip};
 
 use chars::run_end;
 
-// An arm for each byte, which are tested at once: `matches!` tests one by one, and makes Read slower.
+// (An arm for each byte becomes one test of a bit. `matches!` becomes comparisons, with which Read of integers takes a tenth longer.)
 fn is_space(b: u8) -> bool
     ensures { result ≡ is_space b }
 {

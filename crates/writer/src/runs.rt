@@ -14,7 +14,8 @@ fn is_ordinary(b: u8) -> bool
     !matches!(b, b'"' | b'\\')
 }
 
-// An arm for each byte, which are tested at once: `matches!` tests one by one, and makes Compact slower.
+// (An arm for each byte becomes one table with those of `is_atom`; with `matches!` in both, Compact of integers takes a third more
+// instructions.)
 pub fn is_structural(b: u8) -> bool
     ensures { result ≡ is_structural b }
 {
@@ -29,7 +30,7 @@ pub fn is_structural(b: u8) -> bool
     }
 }
 
-// So here.
+// (So here.)
 fn is_atom(b: u8) -> bool
     ensures { result ≡ is_atom b }
 {
