@@ -150,8 +150,9 @@ fn item(
     value(first, text, heads, marks, row, at, depth)
 }
 
-// The array whose bracket stands at a place. The room is lent as two slices, `heads` and `marks`: lent as one struct, it keeps `item` out of the loops
-// around it, and Read takes 4 to 15 % more instructions, of nested brackets a third more time. Where an item begins is told by the one before it, so there is nothing to iterate over; so in `object`.
+// The array whose bracket stands at a place. Where an item begins is told by the one before it, so there is nothing to iterate over; so in `object`.
+// The room is lent as two slices, `heads` and `marks`: lent as one struct, it keeps `item` out of the loops around it, and Read takes 4 to 15 % more
+// instructions, of nested brackets a third more time.
 #[cycle(array_item_member_object_value)]
 fn array(
     text: &[u8],
