@@ -27,7 +27,7 @@ fn finish(h: u64) -> u64
     h * 2654435769 / 65536 % 65536
 }
 
-// The name whose characters begin at a place.
+// The name whose characters begin at a place. Each tells where the next begins.
 pub fn hashed_end(text: &[u8], at: usize) -> Reading<Hashed>
     ensures { result ≡ hashed_at text.now at }
 {

@@ -9,7 +9,7 @@ use crate::plain::{is_plain, plain_end};
 use crate::refusals::Reading;
 use crate::wide::wides;
 
-// The place behind the closing quote of the string whose characters begin at a place.
+// The place behind the closing quote of the string whose characters begin at a place. Each character tells where the next begins.
 pub fn string_end(text: &[u8], at: usize) -> Reading<usize>
     ensures { result ≡ string_at text.now at }
 {

@@ -33,7 +33,7 @@ fn zone(body: &[u8], at: usize) -> Option<u32>
     Some(DAY + behind)
 }
 
-// The zone behind the digits at a place, of which there may be none.
+// The zone behind the digits at a place, of which there may be none. Each tells where the next begins.
 fn digits(body: &[u8], at: usize) -> Option<u32>
     ensures { result ≡ zone_read (after_digits (chars_at body.now at)) }
 {

@@ -10,7 +10,7 @@ use rows::Tree;
 use schema::PATH_WORDS;
 use syntax::Answer;
 
-// Check's answer, and how many bytes the pointer has.
+// Check's answer, and how many bytes the pointer has. That is 0 where there is none, as the contract of `explain` says.
 #[derive(Clone, Copy, Debug, PartialEq, Eq)]
 pub struct Explained {
     pub answer: Answer,

@@ -1,4 +1,5 @@
-// The pieces of a pointer: each is put into the buffer from a place on, as far as it lies there, and the place behind it is told.
+// The pieces of a pointer: each is put into the buffer from a place on, as far as it lies there, and the place behind it is told. Buffer and place are two
+// parameters: each contract says of the place alone how far it may be, also behind the buffer's end, so that a struct of both would be taken apart there.
 ghost use Rattle.std.specs.Prelude.{◌+◌, ◌≤◌, ◌<◌, length, [], ◌∷◌};
 ghost use Rattle.chars.specs.Strings.{characters};
 ghost use Rattle.grammar.specs.Utf8.{utf8};

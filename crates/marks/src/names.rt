@@ -17,7 +17,8 @@ fn bucket(hash: usize, buckets: usize) -> usize
     hash * buckets / 65536
 }
 
-// A name above row `object` has this hash and the characters of the name from `at` up to `end`.
+// A name above row `object` has this hash and the characters of the name from `at` up to `end`. Each name links to the one before it in its bucket;
+// 0 is none, since as an `Option` a head takes twice its room, and a call more than the 320 KiB of stack that the C header promises.
 fn seen(
     text: &[u8],
     heads: &[u16],

@@ -57,7 +57,7 @@ fn count_names(tree: Tree, row: usize, letters: &[u8]) -> usize
         + count_fields(tree, tree.find(row + 2, b"optional"), letters)
 }
 
-// Writes the letters.
+// Writes the letters, until no name goes on with them: how many they are nobody knows before.
 fn write_letters(tree: Tree, row: usize, out: &mut [u8]) -> usize
     requires { LettersReady tree.text.now tree.table.now row (length out.old) }
     ensures { LettersWritten tree.entry.text.now tree.entry.table.now row result out.old out.new }

@@ -22,7 +22,7 @@ pub fn number(s: &[u8]) -> Option<usize> {
     })
 }
 
-// The value of a hex digit in upper case.
+// The value of a hex digit in upper case alone; `to_digit` takes both.
 fn hex(b: u8) -> Option<u8>
     ensures { IfSome result (λ d. d < 16) }
 {
