@@ -1,7 +1,7 @@
 // The line of a text in which a place lies, and a mark under the place.
 ghost use Rattle.std.specs.Prelude.{◌≤◌, ◌<◌, length};
 
-use crate::lines::{line, put};
+use crate::lines::{line, print, put};
 
 // How many bytes of a line are shown before the place, and how many from it on.
 const SHOWN: usize = 60;
@@ -10,9 +10,9 @@ const SHOWN: usize = 60;
 #[derive(Clone, Copy, Debug, PartialEq, Eq)]
 pub struct Excerpt<'a> {
     pub text: &'a [u8],
-    pub name: &'a str,
+    pub name: &'a [u8],
     pub place: u32,
-    pub words: &'a str,
+    pub words: &'a [u8],
 }
 
 impl Excerpt<'_> {
@@ -42,7 +42,10 @@ impl Excerpt<'_> {
         }
         pad(rt, &text[first..at]);
         let number = line_number(text, at);
-        line(rt, format_args!("^ {name}, line {number}: {words}"));
+        put(rt, b"^ ");
+        put(rt, name);
+        print(rt, format_args!(", line {number}: "));
+        line(rt, words);
     }
 }
 

@@ -10,7 +10,7 @@ mod saving;
 pub use commands::{Usage, asked};
 pub use excerpts::Excerpt;
 pub use files::{Broken, NoFile, load, read_full};
-pub use lines::{Numbers, line, print, put};
+pub use lines::{Numbers, line, print, print_line, put};
 pub use saving::save;
 
 // The limit of a document, in bytes.

@@ -11,8 +11,14 @@ pub fn print(rt: &impl Print, value: impl Display + Drop) {
 }
 
 // Prints a value, and the end of the line.
-pub fn line(rt: &impl Print, value: impl Display + Drop) {
+pub fn print_line(rt: &impl Print, value: impl Display + Drop) {
     let _ = rt.println(value);
+}
+
+// Bytes, and the end of the line.
+pub fn line(rt: &impl Print, bytes: &[u8]) {
+    put(rt, bytes);
+    put(rt, b"\n");
 }
 
 // Prints bytes, which need not be text.

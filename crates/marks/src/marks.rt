@@ -19,14 +19,22 @@ pub enum Branch {
     Object,
 }
 
-// The mark of an array or an object.
-pub fn list_mark(branch: Branch, first: usize, end: usize, children: usize, rows: usize) -> u64
-    requires { (first < end) × (end ≤ 65536) × (2 * children + branch_number branch < 65536) × (rows < 65536) }
-    ensures { result ≡ list_mark (branch_number branch) first end children rows }
+impl From<Branch> for usize {
+    ghost from_gives = { λ branch n. n ≡ branch_number branch };
+
+    // The number of a branch in a mark.
+    fn from(branch: Branch) -> usize {
+        match branch {
+            Branch::Array => 0,
+            Branch::Object => 1,
+        }
+    }
+}
+
+// An array, of which `object` is 0, or an object, of which it is 1.
+pub fn list_mark(object: usize, first: usize, end: usize, children: usize, rows: usize) -> u64
+    requires { (first < end) × (end ≤ 65536) × (2 * children + object < 65536) × (rows < 65536) }
+    ensures { result ≡ list_mark object first end children rows }
 {
-    let object = match branch {
-        Branch::Array => 0,
-        Branch::Object => 1,
-    };
     pack(first, end - 1, rows, 2 * children + object)
 }

@@ -91,7 +91,7 @@ fn close(
     ensures value { result ≡ scanned end rows }
     ensures marks_after { marks.new ≡ set marks.old row (list_mark (branch_number branch) at end children rows) }
 {
-    marks[row] = list_mark(branch, at, end, children, rows);
+    marks[row] = list_mark(usize::from(branch), at, end, children, rows);
     Scanned { end, rows }
 }
 

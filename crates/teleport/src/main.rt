@@ -3,7 +3,7 @@
 // before any code.
 #![tactic(auto)]
 
-use console::{NoFile, TABLE, TEXT, Usage, asked, line, load};
+use console::{NoFile, TABLE, TEXT, Usage, asked, load, print_line};
 use schema::PATH_WORDS;
 use std::rt::{Env, Files};
 use syntax::Answer;
@@ -77,7 +77,7 @@ fn run(rt: &(impl Env + Files)) -> Result<Answer, NoFile> {
 
 fn main(rt: HostRuntime) {
     match run(&rt) {
-        Ok(answer) => line(&rt, answer),
-        Err(no_file) => line(&rt, no_file),
+        Ok(answer) => print_line(&rt, answer),
+        Err(no_file) => print_line(&rt, no_file),
     }
 }

@@ -2,7 +2,7 @@
 // prints the answer and writes its file; where a file cannot be read or written, or the arguments are others, the line is `no file`.
 #![tactic(auto)]
 
-use console::{NoFile, TEXT, Usage, asked, line, load};
+use console::{NoFile, TEXT, Usage, asked, load, print_line};
 use std::random::RandomSource;
 use std::rt::{Env, Files};
 
@@ -84,6 +84,6 @@ fn run_two(
 
 fn main(rt: HostRuntime) {
     if let Err(no_file) = run(&rt) {
-        line(&rt, no_file);
+        print_line(&rt, no_file);
     }
 }

@@ -1,5 +1,5 @@
 // The commands over a document and a schema.
-use console::{Excerpt, Numbers, line, put};
+use console::{Excerpt, Numbers, line, print_line};
 use schema::PATH_WORDS;
 
 // Room for every pointer: each byte of the document gives at most two.
@@ -19,9 +19,9 @@ pub fn dates(
     let mut dates = [0i64; 3];
     let mut path = [0u32; PATH_WORDS];
     let answer = schema::check(document, schema, table1, table2, &mut dates, &mut path).answer;
-    line(rt, answer);
+    print_line(rt, answer);
     if answer.code == 0 {
-        line(rt, Numbers(dates));
+        print_line(rt, Numbers(dates));
     }
 }
 
@@ -37,23 +37,22 @@ pub fn explain(
     let mut pointer = [0u8; POINTER];
     let explained = explain::explain(document, schema, table1, table2, &mut pointer);
     let answer = explained.answer;
-    line(rt, answer);
+    print_line(rt, answer);
     let Some(misfit) = Misfit::from_code(answer.code) else {
         return;
     };
     let length = explained.length.min(POINTER);
-    put(rt, &pointer[..length]);
-    put(rt, b"\n");
+    line(rt, &pointer[..length]);
     Excerpt {
         text: document,
-        name: "document",
+        name: b"document",
         place: answer.place,
         words: misfit.of_document(),
     }
     .print(rt);
     Excerpt {
         text: schema,
-        name: "schema",
+        name: b"schema",
         place: answer.other,
         words: misfit.of_schema(),
     }
@@ -79,20 +78,20 @@ impl Misfit {
         }
     }
 
-    // What is said of the document.
-    fn of_document(self) -> &'static str {
+    // What is said of the document, as bytes, which `Excerpt` takes.
+    fn of_document(self) -> &'static [u8] {
         match self {
-            Misfit::Kind => "this value is of the wrong kind",
-            Misfit::Name => "this object lacks a required name",
-            Misfit::Date => "this string is no date",
+            Misfit::Kind => b"this value is of the wrong kind",
+            Misfit::Name => b"this object lacks a required name",
+            Misfit::Date => b"this string is no date",
         }
     }
 
     // What is said of the schema.
-    fn of_schema(self) -> &'static str {
+    fn of_schema(self) -> &'static [u8] {
         match self {
-            Misfit::Name => "the required name",
-            Misfit::Kind | Misfit::Date => "the definition",
+            Misfit::Name => b"the required name",
+            Misfit::Kind | Misfit::Date => b"the definition",
         }
     }
 }

@@ -1,5 +1,5 @@
 // The command over one text.
-use console::{LIMIT, NoFile, line, save};
+use console::{LIMIT, NoFile, print_line, save};
 use std::random::RandomSource;
 use std::rt::{Env, Files};
 
@@ -16,6 +16,6 @@ pub fn compact(
         let written = &buffer[..answer.other as usize];
         save(rt, 3, written)?;
     }
-    line(rt, answer);
+    print_line(rt, answer);
     Ok(())
 }

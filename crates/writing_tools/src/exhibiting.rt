@@ -1,5 +1,5 @@
 // The command over two schemas.
-use console::{LIMIT, NoFile, line, save};
+use console::{LIMIT, NoFile, print_line, save};
 use schema::PATH_WORDS;
 use std::random::RandomSource;
 use std::rt::{Env, Files};
@@ -17,15 +17,15 @@ pub fn counterexample(
     let mut buffer = [0u8; LIMIT];
     let answer = counterexample::counterexample(new, old, table1, table2, &mut buffer);
     if answer.code != 30 {
-        line(rt, answer);
+        print_line(rt, answer);
         return Ok(());
     }
     let document = &buffer[..answer.other as usize];
     save(rt, 4, document)?;
-    line(rt, answer);
+    print_line(rt, answer);
     let mut dates = [0i64; 3];
     let mut path = [0u32; PATH_WORDS];
-    line(
+    print_line(
         rt,
         schema::check(document, old, table1, table2, &mut dates, &mut path).answer,
     );

@@ -6,5 +6,5 @@ pub returns : goal.returns
 returns c =
     record {
       value = refl;
-      marks_after = rw c.list_mark.ensures;
+      marks_after = rw (c.list_mark.ensures, c.from.ensures);
     }
