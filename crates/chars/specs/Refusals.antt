@@ -4,8 +4,8 @@ use Rattle.chars.specs.declared.refusals.Code.{Code}
 use Rattle.chars.specs.declared.refusals.Code.TheVariants.{TooLong, Ended, NotAllowed, NotUtf8, LoneSurrogate, NameTwice, TooDeep}
 use Rattle.chars.specs.declared.refusals.Refusal.{Refusal}
 
--- "1 text too long", "2 text ended early", "3 byte not allowed here", "4 not UTF-8 inside a string", "5 surrogate escape without its partner",
--- "6 name twice in one object", "7 nested too deep"
+-- 01, "Three services", its table of codes: 1 text too long, 2 text ended early, 3 byte not allowed here, 4 not UTF-8 inside a string,
+-- 5 surrogate escape without its partner, 6 name twice in one object, 7 nested too deep
 abbrev pub number : Code → ℕ
 number TooLong = 1
 number Ended = 2
