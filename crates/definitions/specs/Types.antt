@@ -38,3 +38,8 @@ takes_kind Integer k = eqb k 4
 takes_kind Text k = eqb k 6
 takes_kind Boolean k = eqb k 2 || eqb k 3
 takes_kind DateTime k = false
+
+-- the kinds that what a string names takes; a string that names no type takes none
+abbrev pub named_takes : Option TypeName → ℕ → Bool
+named_takes (Some t) k = takes_kind t k
+named_takes None k = false

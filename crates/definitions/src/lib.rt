@@ -9,4 +9,4 @@ mod types;
 pub use accepting::accept;
 pub use definitions::{Fault, FaultCode, define};
 pub use shapes::{generic_at, of_objects, type_at};
-pub use types::{Generic, TypeName, generic_name, named_type};
+pub use types::{Generic, TypeName, generic_name, named_type, takes};

@@ -2,7 +2,7 @@
 ghost use Rattle.std.specs.Prelude.{◌≡◌};
 ghost use Rattle.model.specs.Definition.{named_by};
 ghost use Rattle.chars.specs.Strings.{characters};
-ghost use Rattle.definitions.specs.Types.{type_name, generic_of, takes_kind};
+ghost use Rattle.definitions.specs.Types.{type_name, generic_of, takes_kind, named_takes};
 
 use chars::same_name;
 
@@ -33,6 +33,13 @@ impl TypeName {
             TypeName::Schema | TypeName::DateTime => false,
         }
     }
+}
+
+// Whether what a string names takes every value of a kind: a string that names no type takes none.
+pub fn takes(name: Option<TypeName>, kind: u32) -> bool
+    ensures { result ≡ named_takes name kind }
+{
+    name.is_some_and(|name| name.takes(kind))
 }
 
 // The generic types that a member of a definition can name.
