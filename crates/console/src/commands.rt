@@ -1,12 +1,11 @@
 // The command that the program was started with.
-use crate::files::argument;
 use std::env::FillError;
 use std::rt::Env;
 
 // A command, its name, and how many arguments it takes: the program's own name and the command's among them.
 #[derive(Clone, Copy, Debug, PartialEq, Eq)]
-pub struct Usage<C> {
-    pub name: &'static str,
+pub struct Usage<'a, C> {
+    pub name: &'a [u8],
     pub count: usize,
     pub command: C,
 }
@@ -15,10 +14,10 @@ pub struct Usage<C> {
 pub fn asked<C: Copy>(rt: &impl Env, usages: &[Usage<C>]) -> Option<C> {
     // room for the longest command, and a longer word is none
     let mut word = [0u8; 16];
-    let word = argument(rt, 1, &mut word).ok()?;
+    let n = rt.arg(1, &mut word).ok()?;
     usages
         .iter()
-        .find(|usage| usage.name == word && has_count(rt, usage.count))
+        .find(|usage| usage.name == &word[..n] && has_count(rt, usage.count))
         .map(|usage| usage.command)
 }
 

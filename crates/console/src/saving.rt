@@ -7,7 +7,7 @@
 //
 // What else may have the name cannot be replaced so, and is no file: a folder, a device, a pipe, and
 // a link, which would be cut off from what it leads to.
-ghost use Rattle.std.specs.Prelude.{◌≡◌, ◌++◌, IfSome};
+ghost use Rattle.std.specs.Prelude.{◌≡◌, ◌++◌, ◌≤◌, length, IfSome};
 
 use crate::files::{NoFile, PATH_MAX, argument};
 use std::fs::{OpenFile, OpenOptions, Permissions};
@@ -70,8 +70,12 @@ fn save_over(rt: &(impl Files + RandomSource), path: &str, bytes: &[u8]) -> Resu
     if fs::symlink_metadata(rt, path).is_ok_and(|link| link.is_symlink()) {
         return Err(NoFile);
     }
-    let file = OpenOptions::new().read(true).write(true).open(rt, path)?;
-    let metadata = file.metadata()?;
+    // closed before the new file is made, so that one descriptor is enough for both
+    let metadata = OpenOptions::new()
+        .read(true)
+        .write(true)
+        .open(rt, path)?
+        .metadata()?;
     if !metadata.is_file() {
         return Err(NoFile);
     }
@@ -129,7 +133,8 @@ fn folder(path: &str) -> &str {
 
 // Puts a path at the start of buf, where there is room: a folder, and a name behind it.
 fn put_path<'a>(buf: &'a mut [u8], folder: &[u8], name: &[u8]) -> Option<&'a [u8]>
-    ensures { IfSome result (λ path. path.now ≡ folder.now ++ name.now) }
+    ensures joined { IfSome result (λ path. path.now ≡ folder.now ++ name.now) }
+    ensures within { IfSome result (λ path. length path.now ≤ length buf.old) }
 {
     let end = folder.len() + name.len();
     if buf.len() < end {

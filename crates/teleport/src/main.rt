@@ -17,17 +17,17 @@ enum Command {
 
 const COMMANDS: [Usage<Command>; 3] = [
     Usage {
-        name: "read",
+        name: b"read",
         count: 3,
         command: Command::Read,
     },
     Usage {
-        name: "check",
+        name: b"check",
         count: 4,
         command: Command::Check,
     },
     Usage {
-        name: "compare",
+        name: b"compare",
         count: 4,
         command: Command::Compare,
     },

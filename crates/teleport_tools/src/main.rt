@@ -28,22 +28,22 @@ enum Command {
 
 const COMMANDS: [Usage<Command>; 4] = [
     Usage {
-        name: "compact",
+        name: b"compact",
         count: 4,
         command: Command::Compact,
     },
     Usage {
-        name: "counterexample",
+        name: b"counterexample",
         count: 5,
         command: Command::Two(Pair::Counterexample),
     },
     Usage {
-        name: "dates",
+        name: b"dates",
         count: 4,
         command: Command::Two(Pair::Dates),
     },
     Usage {
-        name: "explain",
+        name: b"explain",
         count: 4,
         command: Command::Two(Pair::Explain),
     },
@@ -57,8 +57,9 @@ fn run(rt: &(impl Env + Files + RandomSource + Print)) -> Result<(), NoFile> {
     let mut table1 = [0u32; TABLE];
     match command {
         Command::Compact => writing_tools::compact(rt, first, &mut table1),
-        Command::Two(pair) => run_two(rt, pair, first, &mut table1),
+        Command::Two(pair) => run_two(rt, pair, first, &mut table1)?,
     }
+    Ok(())
 }
 
 // Loads the second file, and runs the command on both texts. The tables are lent, so that the commands share their room; each is called in
@@ -73,9 +74,13 @@ fn run_two(
     let second = load(rt, 3, &mut second)?;
     let mut table2 = [0u32; SCHEMA_TABLE];
     match pair {
-        Pair::Counterexample => {
-            writing_tools::counterexample(rt, first, second, table1, &mut table2)?;
-        }
+        Pair::Counterexample => writing_tools::counterexample(
+            rt,
+            first,
+            second,
+            table1,
+            &mut table2,
+        ),
         Pair::Dates => tools::dates(rt, first, second, table1, &mut table2),
         Pair::Explain => tools::explain(rt, first, second, table1, &mut table2),
     }

@@ -1,5 +1,5 @@
 // The command over two schemas.
-use console::{LIMIT, NoFile, print_line, save};
+use console::{LIMIT, print_line, save};
 use schema::PATH_WORDS;
 use std::random::RandomSource;
 use std::rt::{Env, Files};
@@ -13,15 +13,16 @@ pub fn counterexample(
     old: &[u8],
     table1: &mut [u32],
     table2: &mut [u32],
-) -> Result<(), NoFile> {
+) {
     let mut buffer = [0u8; LIMIT];
     let answer = counterexample::counterexample(new, old, table1, table2, &mut buffer);
     if answer.code != 30 {
-        print_line(rt, answer);
-        return Ok(());
+        return print_line(rt, answer);
     }
     let document = &buffer[..answer.other as usize];
-    save(rt, 4, document)?;
+    if let Err(no_file) = save(rt, 4, document) {
+        return print_line(rt, no_file);
+    }
     print_line(rt, answer);
     let mut dates = [0i64; 3];
     let mut path = [0u32; PATH_WORDS];
@@ -29,5 +30,4 @@ pub fn counterexample(
         rt,
         schema::check(document, old, table1, table2, &mut dates, &mut path).answer,
     );
-    Ok(())
 }

@@ -1,6 +1,6 @@
 // The commands of the second program that write a file, each a function over texts and tables that are lent to it. The first
 // line is the four numbers of the answer. The file is written only with the answer that says so, whole; where that cannot be
-// done, nothing is printed.
+// done, the line is `no file`.
 #![tactic(auto)]
 
 mod compacting;
