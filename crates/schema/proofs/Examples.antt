@@ -308,6 +308,13 @@ order : (check (json "[") (json "[") ≡ answer 2 2 1 0)
 unfolding check_in
 order = (refl, refl, refl, refl, refl, refl, refl)
 
+-- a string that is refused has the number of the paper's table
+refused_strings : (check (0x22 ∷ 0xC0 ∷ 0x80 ∷ 0x22 ∷ []) (json "'String'") ≡ answer 4 1 1 0)
+    × (check (json "'\\ud83d'") (json "'String'") ≡ answer 5 1 7 0)
+    × (check (json "'\\udc00'") (json "'String'") ≡ answer 5 1 4 0)
+unfolding check_in
+refused_strings = (refl, refl, refl)
+
 -- room in the schema's table before 10 to 12, in the document's after the schema was taken wholly, and before the misfits
 room : (check_in 0 0 (json "[") (json "[") ≡ answer 2 2 1 0)
     × (check_in 0 5 (json "[") (json "1") ≡ answer 8 2 0 1)
