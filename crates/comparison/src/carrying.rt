@@ -1,16 +1,16 @@
 // Whether every value that meets a new definition meets an old one, by a walk over the rows of both. 01's term is carried.
-ghost use Rattle.std.specs.Prelude.{◌≡◌, Some};
+ghost use Rattle.std.specs.Prelude.{◌≡◌, ◌≤◌, length, Some};
 ghost use Rattle.syntax.specs.Grammar.{name_of};
 ghost use Rattle.syntax.specs.Holding.{word as word_of};
 ghost use Rattle.definitions.specs.Shapes.{DefinedRow};
 ghost use Rattle.comparison.specs.Carrying.{subtype_name, IsJsonRow};
-ghost use Rattle.comparison.specs.Fields.{FindsUnder, ManyNames};
+ghost use Rattle.comparison.specs.Fields.{FindsUnder, MatchesUnder, ManyNames};
 ghost use Rattle.comparison.specs.Carrying.{Pairing, PairingTo, Decided, FieldPairing, FieldDecided, FieldsPairing, FieldsFailing};
 ghost use Rattle.definitions.specs.declared.types.Generic.TheVariants.{Array, Map, Object};
 
 use crate::fields::{find_under, match_under, wide_under};
 use definitions::{Generic, TypeName, generic_at, of_objects, type_at};
-use rows::{MOST_NAMES, Tree};
+use rows::{MOST_NAMES, SOME_NAMES, Tree};
 
 // Whether a definition that names one type, or none, is carried to one that names another.
 #[tactic(auto, unfolding(crate::specs::Carrying::subtype_name))]
@@ -35,7 +35,7 @@ fn is_json(tree: Tree, row: usize) -> bool
 }
 
 // Whether the new definition at row `a` is carried to the old one at row `b`.
-#[cycle(carried_carried_field_carried_found_carried_to_array_carried_to_map_carried_to_object_failing_field_failing_wide)]
+#[cycle(carried_carried_field_carried_found_carried_to_array_carried_to_map_carried_to_object_failing_field_failing_found_failing_wide_failing_widest)]
 pub fn carried(new: Tree, old: Tree, a: usize, b: usize) -> bool
     requires { Pairing new.text.now old.text.now new.table.now old.table.now a b }
     ensures { Decided new.entry.text.now old.entry.text.now new.entry.table.now old.entry.table.now a b result }
@@ -49,7 +49,7 @@ pub fn carried(new: Tree, old: Tree, a: usize, b: usize) -> bool
 }
 
 // The same where the old one is an Array.
-#[cycle(carried_carried_field_carried_found_carried_to_array_carried_to_map_carried_to_object_failing_field_failing_wide)]
+#[cycle(carried_carried_field_carried_found_carried_to_array_carried_to_map_carried_to_object_failing_field_failing_found_failing_wide_failing_widest)]
 fn carried_to_array(new: Tree, old: Tree, a: usize, b: usize) -> bool
     requires { PairingTo new.text.now old.text.now new.table.now old.table.now a b Array }
     ensures { Decided new.entry.text.now old.entry.text.now new.entry.table.now old.entry.table.now a b result }
@@ -58,7 +58,7 @@ fn carried_to_array(new: Tree, old: Tree, a: usize, b: usize) -> bool
 }
 
 // The same where the old one is a Map: an Object puts anything under the names that it does not name.
-#[cycle(carried_carried_field_carried_found_carried_to_array_carried_to_map_carried_to_object_failing_field_failing_wide)]
+#[cycle(carried_carried_field_carried_found_carried_to_array_carried_to_map_carried_to_object_failing_field_failing_found_failing_wide_failing_widest)]
 fn carried_to_map(new: Tree, old: Tree, a: usize, b: usize) -> bool
     requires { PairingTo new.text.now old.text.now new.table.now old.table.now a b Map }
     ensures { Decided new.entry.text.now old.entry.text.now new.entry.table.now old.entry.table.now a b result }
@@ -72,7 +72,7 @@ fn carried_to_map(new: Tree, old: Tree, a: usize, b: usize) -> bool
 }
 
 // The same where the old one is an Object.
-#[cycle(carried_carried_field_carried_found_carried_to_array_carried_to_map_carried_to_object_failing_field_failing_wide)]
+#[cycle(carried_carried_field_carried_found_carried_to_array_carried_to_map_carried_to_object_failing_field_failing_found_failing_wide_failing_widest)]
 fn carried_to_object(new: Tree, old: Tree, a: usize, b: usize) -> bool
     requires { PairingTo new.text.now old.text.now new.table.now old.table.now a b Object }
     ensures { Decided new.entry.text.now old.entry.text.now new.entry.table.now old.entry.table.now a b result }
@@ -83,7 +83,7 @@ fn carried_to_object(new: Tree, old: Tree, a: usize, b: usize) -> bool
 }
 
 // The row of the name of the first of the old fields at a row to which the new definition at row `a` is not carried.
-#[cycle(carried_carried_field_carried_found_carried_to_array_carried_to_map_carried_to_object_failing_field_failing_wide)]
+#[cycle(carried_carried_field_carried_found_carried_to_array_carried_to_map_carried_to_object_failing_field_failing_found_failing_wide_failing_widest)]
 pub fn failing_field(
     new: Tree,
     old: Tree,
@@ -106,15 +106,51 @@ pub fn failing_field(
     None
 }
 
-// The same where both have many names: each is looked up by an index.
-#[cycle(carried_carried_field_carried_found_carried_to_array_carried_to_map_carried_to_object_failing_field_failing_wide)]
+// The same where both have many names: each is looked up by an index, in room by how many the old ones are. All of the room is cleared, so few
+// names are given less; and each room has a frame of its own.
+#[cycle(carried_carried_field_carried_found_carried_to_array_carried_to_map_carried_to_object_failing_field_failing_found_failing_wide_failing_widest)]
+#[inline(never)]
 fn failing_wide(new: Tree, old: Tree, a: usize, object: usize, required: bool) -> Option<usize>
+    requires fields_pairing { FieldsPairing new.text.now old.text.now new.table.now old.table.now a (Some object) }
+    requires many_names { ManyNames new.text.now new.table.now a (word_of old.table.now object 3) }
+    ensures { FieldsFailing new.entry.text.now old.entry.text.now new.entry.table.now old.entry.table.now a (Some object) required result }
+{
+    if old.row_at(object).children as usize > SOME_NAMES {
+        return failing_widest(new, old, a, object, required);
+    }
+    let mut values = [None; SOME_NAMES];
+    match_under(new, a, old, object, required, &mut values);
+    failing_found(new, old, a, object, &values, required)
+}
+
+// The same in room for the most names.
+#[cycle(carried_carried_field_carried_found_carried_to_array_carried_to_map_carried_to_object_failing_field_failing_found_failing_wide_failing_widest)]
+#[inline(never)]
+fn failing_widest(new: Tree, old: Tree, a: usize, object: usize, required: bool) -> Option<usize>
     requires fields_pairing { FieldsPairing new.text.now old.text.now new.table.now old.table.now a (Some object) }
     requires many_names { ManyNames new.text.now new.table.now a (word_of old.table.now object 3) }
     ensures { FieldsFailing new.entry.text.now old.entry.text.now new.entry.table.now old.entry.table.now a (Some object) required result }
 {
     let mut values = [None; MOST_NAMES];
     match_under(new, a, old, object, required, &mut values);
+    failing_found(new, old, a, object, &values, required)
+}
+
+// The same where what the new definition has under each name was found.
+#[cycle(carried_carried_field_carried_found_carried_to_array_carried_to_map_carried_to_object_failing_field_failing_found_failing_wide_failing_widest)]
+fn failing_found(
+    new: Tree,
+    old: Tree,
+    a: usize,
+    object: usize,
+    values: &[Option<usize>],
+    required: bool,
+) -> Option<usize>
+    requires fields_pairing { FieldsPairing new.text.now old.text.now new.table.now old.table.now a (Some object) }
+    requires few { word_of old.table.now object 3 ≤ length values.now }
+    requires matches { MatchesUnder new.text.now new.table.now a old.text.now old.table.now object required values.now }
+    ensures { FieldsFailing new.entry.text.now old.entry.text.now new.entry.table.now old.entry.table.now a (Some object) required result }
+{
     for (i, row) in old.members(object).enumerate() {
         if !carried_found(new, old, a, values[i], row, required) {
             return Some(row);
@@ -124,7 +160,7 @@ fn failing_wide(new: Tree, old: Tree, a: usize, object: usize, required: bool) -
 }
 
 // Whether it is carried to one field, its name at row `row`: what the new one asks under it is carried, and a required name is required.
-#[cycle(carried_carried_field_carried_found_carried_to_array_carried_to_map_carried_to_object_failing_field_failing_wide)]
+#[cycle(carried_carried_field_carried_found_carried_to_array_carried_to_map_carried_to_object_failing_field_failing_found_failing_wide_failing_widest)]
 fn carried_field(new: Tree, old: Tree, a: usize, row: usize, required: bool) -> bool
     requires { FieldPairing new.text.now old.text.now new.table.now old.table.now a row }
     ensures { FieldDecided new.entry.text.now old.entry.text.now new.entry.table.now old.entry.table.now a row required result }
@@ -136,7 +172,7 @@ fn carried_field(new: Tree, old: Tree, a: usize, row: usize, required: bool) -> 
 }
 
 // The same where row `found` of the new definition was found for the name, or none.
-#[cycle(carried_carried_field_carried_found_carried_to_array_carried_to_map_carried_to_object_failing_field_failing_wide)]
+#[cycle(carried_carried_field_carried_found_carried_to_array_carried_to_map_carried_to_object_failing_field_failing_found_failing_wide_failing_widest)]
 fn carried_found(
     new: Tree,
     old: Tree,

@@ -9,7 +9,7 @@ ghost use Rattle.comparison.specs.Fields.{FindsField, FindsUnder, MatchesFields,
 ghost use Rattle.definitions.specs.declared.types.Generic.TheVariants.{Object};
 
 use definitions::{Generic, generic_at};
-use rows::{FEW_NAMES, MOST_NAMES, Tree, wide};
+use rows::{FEW_NAMES, Tree, wide};
 
 // The row of the definition under a name, given as the bytes between its quotes, in the fields at a row.
 fn find_field(tree: Tree, fields: Option<usize>, key: &[u8]) -> Option<usize>
@@ -77,15 +77,16 @@ pub fn wide_under(tree: Tree, row: usize, names: u32) -> bool
 }
 
 // For each member at row `part` of another tree for which nothing is found yet: the definition under its name in the fields at a row.
-fn match_fields(
+fn match_fields<const NAMES: usize>(
     tree: Tree,
     fields: Option<usize>,
     other: Tree,
     part: usize,
-    found: &mut [Option<usize>; MOST_NAMES],
+    found: &mut [Option<usize>; NAMES],
 )
     requires fields_row { FieldsRow tree.text.now tree.table.now fields × ObjectRow other.text.now other.table.now part }
-    requires part_bound { (word_of other.table.now part 3 ≤ most_names) × (length found.old ≡ most_names) }
+    requires part_bound { (word_of other.table.now part 3 ≤ NAMES) × (length found.old ≡ NAMES) }
+    requires places { NAMES ≤ 65536 }
     ensures { MatchesFields tree.entry.text.now tree.entry.table.now fields other.entry.text.now other.entry.table.now part found.old found.new }
 {
     if let Some(object) = fields {
@@ -94,17 +95,18 @@ fn match_fields(
 }
 
 // For each member at row `part` of another tree what `find_in_object` finds in the Object definition at a row.
-pub fn match_under(
+pub fn match_under<const NAMES: usize>(
     tree: Tree,
     row: usize,
     other: Tree,
     part: usize,
     required: bool,
-    found: &mut [Option<usize>; MOST_NAMES],
+    found: &mut [Option<usize>; NAMES],
 )
     requires defined_row { DefinedRow tree.text.now tree.table.now row × GenericRow tree.text.now tree.table.now row (Some Object) }
     requires object_row { ObjectRow other.text.now other.table.now part }
-    requires part_bound { (word_of other.table.now part 3 ≤ most_names) × (found.old ≡ replicate most_names None) }
+    requires part_bound { (word_of other.table.now part 3 ≤ NAMES) × (found.old ≡ replicate NAMES None) }
+    requires places { NAMES ≤ 65536 }
     ensures { MatchesUnder tree.entry.text.now tree.entry.table.now row other.entry.text.now other.entry.table.now part required found.new }
 {
     match_fields(tree, tree.find(row + 2, b"required"), other, part, found);

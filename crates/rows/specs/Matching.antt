@@ -11,7 +11,7 @@ use Rattle.rows.specs.Finding.{Finds}
 use Rattle.rows.specs.declared.matching.Entry.{Entry}
 use Rattle.rows.specs.declared.matching.Index.{Index}
 
--- how many names an index has room for, in how many buckets
+-- how many names an index has room for at most, and in how many buckets
 abbrev pub most_names : ℕ
 most_names = 2048
 
@@ -69,26 +69,27 @@ bucket_has f b (suc j) = eqb (f j) b
 abbrev pub last_in : (ℕ → ℕ) → ℕ → ℕ → ℕ
 last_in f b n = last_passing (bucket_has f b) (suc n)
 
--- of the first n names; hs has the last name of each bucket, each entry the one before it
-pub record Indexed (s : List ℕ) (hs : List (Option ℕ)) (es : List Entry) (n : ℕ) : Type 0 where
-  pub few : n ≤ most_names
+-- of the first n names, in room for k; hs has the last name of each bucket, each entry the one before it
+pub record Indexed (k : ℕ) (s : List ℕ) (hs : List (Option ℕ)) (es : List Entry) (n : ℕ) : Type 0 where
+  pub few : n ≤ k
   pub heads : (b : ℕ) → b < bucket_count → up_to (get_or hs b None) ≡ last_in (bucket_in s es) b n
   pub links : (j : ℕ) → j < n → up_to (entry_at es j).before ≡ last_in (bucket_in s es) (bucket_in s es j) j
   pub quoted : (j : ℕ) → j < n → IsQuoted s (entry_at es j).first (entry_at es j).end
 
--- so of an index with n names
-abbrev pub IndexOf : Index → ℕ → Type 0
-IndexOf x n = Indexed x.tree.text.now x.heads x.names n
+module _ {k : ℕ} where
+  -- so of an index with n names
+  abbrev pub IndexOf : Index k → ℕ → Type 0
+  IndexOf x n = Indexed k x.tree.text.now x.heads x.names n
 
-pub record HasIndex (x : Index) : Type 0 where
-  pub count : ℕ
-  pub index : IndexOf x count
+  pub record HasIndex (x : Index k) : Type 0 where
+    pub count : ℕ
+    pub index : IndexOf x count
 
--- the names of the object at row r
-pub record Indexes (s t : List ℕ) (r : ℕ) (x : Index) : Type 0 where
-  pub text : x.tree.text.now ≡ s
-  pub lists : Lists s t r x.names
-  pub tells : (o : ObjectRow s t r) → IndexOf x (count_members o.members)
+  -- the names of the object at row r
+  pub record Indexes (s t : List ℕ) (r : ℕ) (x : Index k) : Type 0 where
+    pub text : x.tree.text.now ≡ s
+    pub lists : Lists s t r x.names
+    pub tells : (o : ObjectRow s t r) → IndexOf x (count_members o.members)
 
 -- ---- what is found for them, where anything is
 
@@ -101,7 +102,7 @@ abbrev pub found_at : List (Option ℕ) → ℕ → Option ℕ
 found_at vs j = get_or vs j None
 
 -- after a member with the name m, for each name of an index
-pub record Fills (x : Index) (m : List ℕ) (r : ℕ) (vs vs₂ : List (Option ℕ)) : Type 0 where
+pub record Fills {k : ℕ} (x : Index k) (m : List ℕ) (r : ℕ) (vs vs₂ : List (Option ℕ)) : Type 0 where
   pub long : length vs₂ ≡ length vs
   pub tells : {n : ℕ} → IndexOf x n → (j : ℕ) → j < n → found_at vs₂ j ≡ filled (same (listed_name x.tree.text.now x.names j) m) r (found_at vs j)
 

@@ -7,5 +7,5 @@ mod matching;
 mod records;
 
 pub use children::Children;
-pub use matching::{FEW_NAMES, MOST_NAMES, wide};
+pub use matching::{FEW_NAMES, MOST_NAMES, SOME_NAMES, wide};
 pub use records::{Record, Tree, parent_at};

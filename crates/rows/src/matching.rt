@@ -9,10 +9,13 @@ ghost use Rattle.rows.specs.Matching.{most_names, bucket_count, Buckets, HasInde
 use crate::records::Tree;
 use chars::{hashed_end, same_name};
 
-// How many names an index has room for, in how many buckets.
+// How many names an index has room for at most, and in how many buckets.
 pub const MOST_NAMES: usize = 2048;
 
 const BUCKETS: usize = 1024;
+
+// Up to so many names are given less room, since all of it is cleared.
+pub const SOME_NAMES: usize = 512;
 
 // With fewer names on either side they are looked up one by one.
 pub const FEW_NAMES: u32 = 32;
@@ -39,20 +42,21 @@ const NO_ENTRY: Entry = Entry {
     before: None,
 };
 
-// The names of an object of a tree, in their order, and of each bucket the place of its last name.
+// The names of an object of a tree, NAMES at most, in their order, and of each bucket the place of its last name.
 #[derive(Clone, Copy, Debug, PartialEq, Eq)]
-struct Index<'a> {
+struct Index<'a, const NAMES: usize> {
     tree: Tree<'a>,
     heads: [Option<u16>; BUCKETS],
-    names: [Entry; MOST_NAMES],
+    names: [Entry; NAMES],
 }
 
-impl<'a> Index<'a> {
+impl<'a, const NAMES: usize> Index<'a, NAMES> {
     // Indexes the names of the object at a row of the tree: each leads to the one before it in its bucket.
     fn list(&mut self, object: usize)
         requires object_row { ObjectRow self.old.tree.text.now self.old.tree.table.now object }
-        requires few { word_of self.old.tree.table.now object 3 ≤ most_names }
-        requires empty { (self.old.heads ≡ replicate bucket_count None) × (length self.old.names ≡ most_names) }
+        requires few { word_of self.old.tree.table.now object 3 ≤ NAMES }
+        requires places { NAMES ≤ 65536 }
+        requires empty { (self.old.heads ≡ replicate bucket_count None) × (length self.old.names ≡ NAMES) }
         ensures { Indexes self.old.tree.text.now self.old.tree.table.now object self.new }
     {
         let tree = self.tree;
@@ -69,11 +73,11 @@ impl<'a> Index<'a> {
     }
 
     // A member of another object, its name at a row and its value behind it: found for each indexed name that is the same and has none yet.
-    fn fill(&self, tree: Tree, row: usize, found: &mut [Option<usize>; MOST_NAMES])
+    fn fill(&self, tree: Tree, row: usize, found: &mut [Option<usize>; NAMES])
         requires in_table { InTable tree.table.now row }
         requires quoted { IsQuoted tree.text.now (word_of tree.table.now row 1) (word_of tree.table.now row 2) }
         requires has_index { HasIndex self.now }
-        requires found_len { length found.old ≡ most_names }
+        requires found_len { length found.old ≡ NAMES }
         ensures { Fills self.now
             (name_of tree.entry.text.now (word_of tree.entry.table.now row 1) (word_of tree.entry.table.now row 2)) (row + 1) found.old found.new }
     {
@@ -110,16 +114,17 @@ impl<'a> Tree<'a> {
     }
 
     // For each member at row `part` of another tree, in order, for which nothing is found yet: the row of the value under its name in the object at a row.
-    pub fn match_names(
+    pub fn match_names<const NAMES: usize>(
         self,
         object: usize,
         other: Tree,
         part: usize,
-        found: &mut [Option<usize>; MOST_NAMES],
+        found: &mut [Option<usize>; NAMES],
     )
         requires object_row { ObjectRow self.text.now self.table.now object }
         requires object_row_2 { ObjectRow other.text.now other.table.now part }
-        requires part_bound { (word_of other.table.now part 3 ≤ most_names) × (length found.old ≡ most_names) }
+        requires part_bound { (word_of other.table.now part 3 ≤ NAMES) × (length found.old ≡ NAMES) }
+        requires places { NAMES ≤ 65536 }
         ensures { Matches self.entry.text.now self.entry.table.now object other.entry.text.now other.entry.table.now part
             found.old found.new }
     {
@@ -127,7 +132,7 @@ impl<'a> Tree<'a> {
         let mut index = Index {
             tree: other,
             heads: [None; BUCKETS],
-            names: [NO_ENTRY; MOST_NAMES],
+            names: [NO_ENTRY; NAMES],
         };
         index.list(part);
         for row in self.members(object) {

@@ -1,6 +1,8 @@
 // The first mismatch of a document's value with a definition (01, "Definitions": "First misfit"). The dates are counted on the way.
-ghost use Rattle.std.specs.Prelude.{◌≡◌};
+ghost use Rattle.std.specs.Prelude.{◌≡◌, ◌≤◌, length, replicate, Some, None};
+ghost use Rattle.syntax.specs.Holding.{word as word_of};
 ghost use Rattle.rows.specs.Records.{Rowed};
+ghost use Rattle.rows.specs.Matching.{most_names, Matches};
 ghost use Rattle.schema.specs.Judging.{mismatch, mismatch_number, unless as unlessOf};
 ghost use Rattle.schema.specs.Walks.{Judgeable, Judged, JudgedDate, NameJudgeable, ArrayJudgeable, MapJudgeable, BodyJudgeable};
 ghost use Rattle.schema.specs.Walks.{FieldsJudgeable, FieldsJudged, FieldJudgeable, FieldJudged};
@@ -8,7 +10,7 @@ ghost use Rattle.schema.specs.Walks.{FieldsJudgeable, FieldsJudged, FieldJudgeab
 use crate::dates::Dates;
 use date::moment_of;
 use definitions::{Generic, TypeName, define, generic_at, type_at};
-use rows::{FEW_NAMES, MOST_NAMES, Tree, wide};
+use rows::{FEW_NAMES, MOST_NAMES, SOME_NAMES, Tree, wide};
 
 // Why a value does not meet a definition.
 #[derive(Clone, Copy, Debug, PartialEq, Eq)]
@@ -93,7 +95,7 @@ fn judge_named(
 }
 
 // The first mismatch of the value at row `at` of the document with the definition at row `by` of the schema.
-#[cycle(judge_judge_array_judge_field_judge_fields_judge_map_judge_object_judge_wide)]
+#[cycle(judge_judge_array_judge_field_judge_fields_judge_found_judge_map_judge_object_judge_wide_judge_widest)]
 pub fn judge(
     document: Tree,
     schema: Tree,
@@ -114,7 +116,7 @@ pub fn judge(
 }
 
 // The same of a definition under Array.
-#[cycle(judge_judge_array_judge_field_judge_fields_judge_map_judge_object_judge_wide)]
+#[cycle(judge_judge_array_judge_field_judge_fields_judge_found_judge_map_judge_object_judge_wide_judge_widest)]
 fn judge_array(
     document: Tree,
     schema: Tree,
@@ -135,7 +137,7 @@ fn judge_array(
 }
 
 // The same of a definition under Map. One function for both would take the children as an iterator of either kind, and be no plainer than these two.
-#[cycle(judge_judge_array_judge_field_judge_fields_judge_map_judge_object_judge_wide)]
+#[cycle(judge_judge_array_judge_field_judge_fields_judge_found_judge_map_judge_object_judge_wide_judge_widest)]
 fn judge_map(
     document: Tree,
     schema: Tree,
@@ -156,7 +158,7 @@ fn judge_map(
 }
 
 // The same of a definition under Object.
-#[cycle(judge_judge_array_judge_field_judge_fields_judge_map_judge_object_judge_wide)]
+#[cycle(judge_judge_array_judge_field_judge_fields_judge_found_judge_map_judge_object_judge_wide_judge_widest)]
 fn judge_object(
     document: Tree,
     schema: Tree,
@@ -181,7 +183,7 @@ fn judge_object(
 }
 
 // The object at row `at` of the document against the fields of the object at a row of the schema, in their order, where there is one.
-#[cycle(judge_judge_array_judge_field_judge_fields_judge_map_judge_object_judge_wide)]
+#[cycle(judge_judge_array_judge_field_judge_fields_judge_found_judge_map_judge_object_judge_wide_judge_widest)]
 fn judge_fields(
     document: Tree,
     schema: Tree,
@@ -205,10 +207,10 @@ fn judge_fields(
     Ok(())
 }
 
-// The same of an object with many members: where the fields are many too, each name is looked up by an index.
-// It is called twice, so that the compiler keeps its room out of the frames of `judge_object` and `judge_fields`.
-// Its loop stands here once more, since one that takes a closure for what is found would be no shorter than both.
-#[cycle(judge_judge_array_judge_field_judge_fields_judge_map_judge_object_judge_wide)]
+// The same of an object with many members: where the fields are many too, each name is looked up by an index, in room by how many they are. All of
+// the room is cleared, so few names are given less; and each room has a frame of its own.
+#[cycle(judge_judge_array_judge_field_judge_fields_judge_found_judge_map_judge_object_judge_wide_judge_widest)]
+#[inline(never)]
 fn judge_wide(
     document: Tree,
     schema: Tree,
@@ -228,8 +230,54 @@ fn judge_wide(
     if !wide(document.row_at(at).children, names) {
         return judge_fields(document, schema, at, fields, required, dates);
     }
+    if names as usize > SOME_NAMES {
+        return judge_widest(document, schema, at, object, required, dates);
+    }
+    let mut values = [None; SOME_NAMES];
+    document.match_names(at, schema, object, &mut values);
+    judge_found(document, schema, at, object, &values, required, dates)
+}
+
+// The same of fields at a row, in room for the most names.
+#[cycle(judge_judge_array_judge_field_judge_fields_judge_found_judge_map_judge_object_judge_wide_judge_widest)]
+#[inline(never)]
+fn judge_widest(
+    document: Tree,
+    schema: Tree,
+    at: usize,
+    object: usize,
+    required: bool,
+    dates: &mut Dates,
+) -> Result<(), Mismatch>
+    requires judgeable { FieldsJudgeable document.text.now schema.text.now document.table.now schema.table.now at (Some object) }
+    requires few { word_of schema.table.now object 3 ≤ most_names }
+    ensures { FieldsJudged document.entry.text.now schema.entry.text.now document.entry.table.now schema.entry.table.now at (Some object) required
+        result dates.old dates.new }
+{
     let mut values = [None; MOST_NAMES];
     document.match_names(at, schema, object, &mut values);
+    judge_found(document, schema, at, object, &values, required, dates)
+}
+
+// The same where what stands under each of their names was found.
+// The loop stands here once more, since one that takes a closure for what is found would be no shorter than both.
+#[cycle(judge_judge_array_judge_field_judge_fields_judge_found_judge_map_judge_object_judge_wide_judge_widest)]
+fn judge_found(
+    document: Tree,
+    schema: Tree,
+    at: usize,
+    object: usize,
+    values: &[Option<usize>],
+    required: bool,
+    dates: &mut Dates,
+) -> Result<(), Mismatch>
+    requires judgeable { FieldsJudgeable document.text.now schema.text.now document.table.now schema.table.now at (Some object) }
+    requires few { word_of schema.table.now object 3 ≤ length values.now }
+    requires matches { Matches document.text.now document.table.now at schema.text.now schema.table.now object
+        (replicate (length values.now) None) values.now }
+    ensures { FieldsJudged document.entry.text.now schema.entry.text.now document.entry.table.now schema.entry.table.now at (Some object) required
+        result dates.old dates.new }
+{
     for (i, row) in schema.members(object).enumerate() {
         judge_field(document, schema, at, values[i], row, required, dates)?;
     }
@@ -237,7 +285,7 @@ fn judge_wide(
 }
 
 // The same of one field, its name at row `row`: its value was found at row `value` of the document, if at all.
-#[cycle(judge_judge_array_judge_field_judge_fields_judge_map_judge_object_judge_wide)]
+#[cycle(judge_judge_array_judge_field_judge_fields_judge_found_judge_map_judge_object_judge_wide_judge_widest)]
 fn judge_field(
     document: Tree,
     schema: Tree,

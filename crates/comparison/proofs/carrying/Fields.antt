@@ -1,10 +1,11 @@
 -- Whether a new definition is carried to the fields of an old Object: `InFields` and `InWide` are the invariants of the loops over them,
--- with a law for each way through (`failing_field`, `failing_wide`, `carried_found`).
+-- with a law for each way through (`failing_field`, `failing_found`, `carried_found`).
 use Prim.Native.Nat.{ℕ, ◌+◌, ◌≤◌, ◌<◌}
 use mathlib.Core.Path.{◌≡◌, refl, sym, ap, subst, ◌∙◌}
 use mathlib.Core.Bool.{Bool, true, false, cond}
 use mathlib.Core.List.{List}
 use native.Mathlib.Omega.{arith}
+use lib.ListN.{length}
 use Rattle.std.specs.Prelude.{Option, Some, None}
 use Rattle.model.specs.Definition.{Def}
 use Rattle.model.specs.Subtype.{subtype}
@@ -20,7 +21,7 @@ use Rattle.comparison.specs.Fields.{definition_under, Gives, FindsUnder, Matches
 use Rattle.definitions.proofs.Facts.{FieldsLeft, FieldHere, field_here, fields_none, fields_start, fields_end, same_fields}
 use Rattle.rows.proofs.Facts.{part_object, MemberHere, members_start, name_here}
 use Rattle.rows.proofs.Facts.{Answers, answers_start, answers_here, answers_next}
-use Rattle.rows.specs.Matching.{most_names, found_at}
+use Rattle.rows.specs.Matching.{found_at}
 
 -- ---- the old fields, one after the other
 
@@ -91,12 +92,12 @@ module _ {s₁ s₂ t₁ t₂ : List ℕ} {r₁ r₂ : ℕ} {required : Bool} {c
 
 -- the same where what the new definition has under each name was found before, in vs: i fields are compared
 pub record InWide (s₁ s₂ t₁ t₂ : List ℕ) (r₁ r₂ : ℕ) (required : Bool) (vs : List (Option ℕ)) (i : ℕ) (c : Children 1) : Type 0 where
-  pub few : i + c.left ≤ most_names
+  pub few : i + c.left ≤ length vs
   pub ahead : InFields s₁ s₂ t₁ t₂ r₁ r₂ required c
   pub matched : Answers (λ n v. FindsUnder s₁ t₁ r₁ n required v) s₂ ahead.ahead.rest vs i c.left
 
 module _ {s₁ s₂ t₁ t₂ : List ℕ} {r₁ r₂ : ℕ} {required : Bool} {vs : List (Option ℕ)} {c : Children 1} where
-  pub wide_start : (p : FieldsPairing s₁ s₂ t₁ t₂ r₁ (Some r₂)) → Begins t₂ r₂ c → word t₂ r₂ 3 ≤ most_names → MatchesUnder s₁ t₁ r₁ s₂ t₂ r₂ required vs
+  pub wide_start : (p : FieldsPairing s₁ s₂ t₁ t₂ r₁ (Some r₂)) → Begins t₂ r₂ c → word t₂ r₂ 3 ≤ length vs → MatchesUnder s₁ t₁ r₁ s₂ t₂ r₂ required vs
       → InWide s₁ s₂ t₁ t₂ r₁ r₂ required vs 0 c
   unfolding failing_start
   wide_start p b few m =

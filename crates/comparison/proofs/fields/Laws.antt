@@ -4,7 +4,7 @@ use mathlib.Core.Path.{◌≡◌, refl}
 use mathlib.Core.Bool.{Bool, true, false, not, cond}
 use mathlib.Core.List.{List}
 use native.Mathlib.Omega.{arith}
-use lib.ListN.{replicate, get_or-replicate}
+use lib.ListN.{length, replicate, length-replicate, get_or-replicate}
 use Rattle.std.specs.Prelude.{Option, Some, None, is_some}
 use Rattle.std.specs.Bool.{then_some}
 use Rattle.model.proofs.Basics.{never}
@@ -17,7 +17,7 @@ use Rattle.syntax.specs.Holding.{word, PlacedMembers}
 use Rattle.definitions.specs.Definitions.{LocatedFields, no_field, fine, definition_at, fields_at, bare, bare_fields}
 use Rattle.rows.specs.Finding.{lookup, Agrees, Finds}
 use Rattle.rows.specs.Records.{InTable, ObjectRow}
-use Rattle.rows.specs.Matching.{most_names, member_name, found_at, Matches}
+use Rattle.rows.specs.Matching.{member_name, found_at, Matches}
 use Rattle.definitions.specs.Shapes.{DefinedRow, GenericRow}
 use Rattle.comparison.specs.Fields.{field_named, or_field, Gives, FindsField, FindsUnder, MatchesFields, MatchesUnder}
 use Rattle.definitions.specs.declared.types.Generic.TheVariants.{Array, Map, Object}
@@ -90,19 +90,23 @@ module _ {s₁ t₁ : List ℕ} {r₁ : Option ℕ} {s₂ t₂ : List ℕ} {r₂
   pub match_some : {r : ℕ} → r₁ ≡ Some r → {vs₂ : List (Option ℕ)} → Matches s₁ t₁ r s₂ t₂ r₂ vs vs₂ → MatchesFields s₁ t₁ r₁ s₂ t₂ r₂ vs vs₂
   match_some e m = record { long = m.long; fresh = λ o j k z. field_found e ((m.tells o j k).fresh z); kept = λ o j k z. (m.tells o j k).kept z }
 
+-- nothing is found in room for k
+pub none_length : {k : ℕ} {vs : List (Option ℕ)} → vs ≡ replicate k None → length vs ≡ k
+none_length {k} e = rw e (length-replicate {A = Option ℕ} k None)
+
 -- `match_under`: vs was found in "required"
-module _ {s₁ t₁ : List ℕ} {r₁ : ℕ} {s₂ t₂ : List ℕ} {r₂ : ℕ} (o : GenericRow s₁ t₁ r₁ (Some Object)) (few : word t₂ r₂ 3 ≤ most_names)
+module _ {k : ℕ} {s₁ t₁ : List ℕ} {r₁ : ℕ} {s₂ t₂ : List ℕ} {r₂ : ℕ} (o : GenericRow s₁ t₁ r₁ (Some Object)) (few : word t₂ r₂ 3 ≤ k)
     {v₁ : Option ℕ} (f : Finds s₁ t₁ (r₁ + 2) (text "required") v₁)
-    {vs : List (Option ℕ)} (h : MatchesFields s₁ t₁ v₁ s₂ t₂ r₂ (replicate most_names None) vs) where
+    {vs : List (Option ℕ)} (h : MatchesFields s₁ t₁ v₁ s₂ t₂ r₂ (replicate k None) vs) where
   first_found : (p : ObjectRow s₂ t₂ r₂) (j : ℕ) → j < count_members p.members → FindsField s₁ t₁ v₁ (member_name s₂ p.members j) (found_at vs j)
-  first_found p j l = h.fresh p j l (get_or-replicate most_names j None None (omega (arith, few, (members_start {left = word t₂ r₂ 3} p refl).counts)))
+  first_found p j l = h.fresh p j l (get_or-replicate k j None None (omega (arith, few, (members_start {left = word t₂ r₂ 3} p refl).counts)))
 
   pub under_required : {required : Bool} → required ≡ true → MatchesUnder s₁ t₁ r₁ s₂ t₂ r₂ required vs
   under_required e = record { tells = λ p j l. in_required o f (first_found p j l) e }
 
   pub under_any : {required : Bool} → required ≡ false → {v₂ : Option ℕ} → Finds s₁ t₁ (r₁ + 2) (text "optional") v₂
       → {vs₂ : List (Option ℕ)} → MatchesFields s₁ t₁ v₂ s₂ t₂ r₂ vs vs₂ → MatchesUnder s₁ t₁ r₁ s₂ t₂ r₂ required vs₂
-  under_any e g k = record { tells = λ p j l. in_either o f (first_found p j l) e g (k.fresh p j l) (λ u z. k.kept p j l z) }
+  under_any e g m = record { tells = λ p j l. in_either o f (first_found p j l) e g (m.fresh p j l) (λ u z. m.kept p j l z) }
 
 -- `find_under`
 module _ {s t : List ℕ} {r : ℕ} where

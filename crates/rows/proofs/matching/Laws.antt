@@ -23,7 +23,7 @@ use Rattle.syntax.specs.Holding.{word}
 use Rattle.rows.specs.Records.{ObjectRow}
 use Rattle.rows.specs.Children.{Passes, Begins}
 use Rattle.rows.specs.Finding.{Finds}
-use Rattle.rows.specs.Matching.{most_names, member_name, entry_at, listed_name, name_bucket, bucket_in, up_to, bucket_has, last_in, Indexed, IndexOf, HasIndex, Indexes}
+use Rattle.rows.specs.Matching.{member_name, entry_at, listed_name, name_bucket, bucket_in, up_to, bucket_has, last_in, Indexed, IndexOf, HasIndex, Indexes}
 use Rattle.rows.specs.Matching.{filled, found_at, Fills, Matches}
 use Rattle.rows.specs.declared.children.Children.{Children}
 use Rattle.rows.specs.declared.matching.Entry.{Entry}
@@ -76,7 +76,7 @@ module _ {s : List ℕ} {es : List Entry} {n : ℕ} (m : List ℕ) {r : ℕ} {vs
           (g j v ∙ sym (filled_other r (found_at vs j)))
       go j a l (no v) = f j (omega arith) l
 
-module _ {s : List ℕ} {hs : List (Option ℕ)} {es : List Entry} {n : ℕ} (x : Indexed s hs es n) {m : List ℕ} {r : ℕ} {vs : List (Option ℕ)} where
+module _ {room : ℕ} {s : List ℕ} {hs : List (Option ℕ)} {es : List Entry} {n : ℕ} (x : Indexed room s hs es n) {m : List ℕ} {r : ℕ} {vs : List (Option ℕ)} where
   fill_begin : {b : ℕ} → b ≡ name_bucket m → Filling s es n m r vs vs (up_to (get_or hs b None))
   fill_begin e = rw (e, x.heads (name_bucket m) (bucket_small m)) (from_last m n (omega arith) (λ j a l. absurd (omega arith)) (λ j l. refl))
 
@@ -97,22 +97,22 @@ pub compared : {a b x y : List ℕ} {t : Bool} → a ≡ x → b ≡ y → t ≡
 compared p q e = e ∙ rw (p, q)
 
 -- the same for every number of names that are indexed, before the name at the place v
-pub record Along (x : Index) (m : List ℕ) (r : ℕ) (vs vs₂ : List (Option ℕ)) (v : Option ℕ) : Type 0 where
-  pub long : length vs₂ ≡ most_names
+pub record Along {k : ℕ} (x : Index k) (m : List ℕ) (r : ℕ) (vs vs₂ : List (Option ℕ)) (v : Option ℕ) : Type 0 where
+  pub long : length vs₂ ≡ k
   pub each : {n : ℕ} → IndexOf x n → Filling x.tree.text.now x.names n m r vs vs₂ (up_to v)
 
 -- the name at j, in a turn
-pub record NameHere (x : Index) (j : ℕ) : Type 0 where
-  pub room : j < most_names
+pub record NameHere {k : ℕ} (x : Index k) (j : ℕ) : Type 0 where
+  pub room : j < k
   pub quotes : ((entry_at x.names j).first + 2 ≤ (entry_at x.names j).end) × ((entry_at x.names j).end ≤ length x.tree.text.now)
   pub less : up_to (entry_at x.names j).before ≤ j
 
-module _ {x : Index} {m : List ℕ} {r : ℕ} {vs : List (Option ℕ)} where
-  pub along_begin : {b : ℕ} → length vs ≡ most_names → b ≡ name_bucket m → Along x m r vs vs (get_or x.heads b None)
+module _ {k : ℕ} {x : Index k} {m : List ℕ} {r : ℕ} {vs : List (Option ℕ)} where
+  pub along_begin : {b : ℕ} → length vs ≡ k → b ≡ name_bucket m → Along x m r vs vs (get_or x.heads b None)
   along_begin l e = record { long = l; each = λ y. fill_begin y e }
 
   module _ {vs₂ : List (Option ℕ)} {v : Option ℕ} (a : Along x m r vs vs₂ v) where
-    pub along_end : length vs ≡ most_names → v ≡ None → Fills x m r vs vs₂
+    pub along_end : length vs ≡ k → v ≡ None → Fills x m r vs vs₂
     along_end e z = record {
       long = a.long ∙ sym e;
       tells = λ y j u. let f = (a.each y).settled in let l : up_to v ≡ 0 = ap up_to z in f j (omega (arith, l)) u;
@@ -132,7 +132,7 @@ module _ {x : Index} {m : List ℕ} {r : ℕ} {vs : List (Option ℕ)} where
             less = omega (arith, y.links j place, last_most (bucket_has (bucket_in x.tree.text.now x.names) (bucket_in x.tree.text.now x.names j)) (suc j));
           }
 
-      pub along_next : j < most_names → {t : Bool} {w : Option ℕ} → t ≡ same (listed_name x.tree.text.now x.names j) m → w ≡ filled t r (found_at vs₂ j)
+      pub along_next : j < k → {t : Bool} {w : Option ℕ} → t ≡ same (listed_name x.tree.text.now x.names j) m → w ≡ filled t r (found_at vs₂ j)
           → Along x m r vs (set vs₂ j w) (entry_at x.names j).before
       along_next l p e = record { long = simp length-set a.long; each = λ y. fill_next y (rw z at (a.each y)) (omega (arith, a.long)) (rw p at e) }
 
@@ -166,13 +166,13 @@ pub record Adding (s t : List ℕ) (r : ℕ) (key : List ℕ) (c : Children 1) (
   pub kept : {w : ℕ} → v ≡ Some w → v₂ ≡ v
 
 -- before the members whose names are left
-pub record Searching (s t : List ℕ) (r : ℕ) (x : Index) (vs vs₂ : List (Option ℕ)) (c : Children 1) : Type 0 where
+pub record Searching {k : ℕ} (s t : List ℕ) (r : ℕ) (x : Index k) (vs vs₂ : List (Option ℕ)) (c : Children 1) : Type 0 where
   pub long : length vs₂ ≡ length vs
   pub rest : Members
   pub ahead : NamesLeft s t c rest
   pub each : {n : ℕ} → IndexOf x n → (j : ℕ) → j < n → Adding s t r (listed_name x.tree.text.now x.names j) c (found_at vs j) (found_at vs₂ j)
 
-module _ {s t : List ℕ} {r : ℕ} {x : Index} {vs : List (Option ℕ)} {c : Children 1} where
+module _ {k : ℕ} {s t : List ℕ} {r : ℕ} {x : Index k} {vs : List (Option ℕ)} {c : Children 1} where
   pub search_start : (o : ObjectRow s t r) → Begins t r c → Searching s t r x vs vs c
   search_start o b = record {
     long = refl;
@@ -207,10 +207,10 @@ module _ {s t : List ℕ} {r : ℕ} {x : Index} {vs : List (Option ℕ)} {c : Ch
       }
 
 -- where nothing was found before
-pub matched_fresh : {s₁ t₁ : List ℕ} {r₁ : ℕ} {s₂ t₂ : List ℕ} {r₂ : ℕ} {vs : List (Option ℕ)} → Matches s₁ t₁ r₁ s₂ t₂ r₂ (replicate most_names None) vs
-    → (o : ObjectRow s₂ t₂ r₂) → count_members o.members ≤ most_names → (j : ℕ) → j < count_members o.members
+pub matched_fresh : {k : ℕ} {s₁ t₁ : List ℕ} {r₁ : ℕ} {s₂ t₂ : List ℕ} {r₂ : ℕ} {vs : List (Option ℕ)} → Matches s₁ t₁ r₁ s₂ t₂ r₂ (replicate k None) vs
+    → (o : ObjectRow s₂ t₂ r₂) → count_members o.members ≤ k → (j : ℕ) → j < count_members o.members
     → Finds s₁ t₁ r₁ (member_name s₂ o.members j) (found_at vs j)
-matched_fresh m o few j l = (m.tells o j l).fresh (get_or-replicate most_names j None None (omega arith))
+matched_fresh {k} m o few j l = (m.tells o j l).fresh (get_or-replicate k j None None (omega arith))
 
 -- ---- what holds of the names of the members that are left, and of what was found for them in vs, from i on
 

@@ -23,7 +23,7 @@ use Rattle.syntax.specs.Grammar.{name_of}
 use Rattle.syntax.specs.Holding.{word}
 use Rattle.rows.specs.Records.{Reads, ObjectRow}
 use Rattle.rows.specs.Children.{Passes, Begins}
-use Rattle.rows.specs.Matching.{most_names, bucket_count, member_name, no_entry, entry_at, listed_name, name_bucket, bucket_in, Buckets, up_to, bucket_has, last_in, Indexed}
+use Rattle.rows.specs.Matching.{bucket_count, member_name, no_entry, entry_at, listed_name, name_bucket, bucket_in, Buckets, up_to, bucket_has, last_in, Indexed}
 use Rattle.rows.specs.declared.children.Children.{Children}
 use Rattle.rows.specs.declared.matching.Entry.{Entry}
 use Rattle.rows.specs.declared.records.Record.{Record}
@@ -65,13 +65,13 @@ last_kept f g b n h = last_same (bucket_has f b) (bucket_has g b) (suc n) alike
 -- ---- the index
 
 -- its lists have their places
-pub record Long (hs : List (Option ℕ)) (es : List Entry) : Type 0 where
+pub record Long (k : ℕ) (hs : List (Option ℕ)) (es : List Entry) : Type 0 where
   pub heads : length hs ≡ bucket_count
-  pub names : length es ≡ most_names
+  pub names : length es ≡ k
 
 -- no name is indexed
-index_none : (s : List ℕ) (es : List Entry) → Indexed s (replicate bucket_count None) es 0
-index_none s es = record {
+index_none : (k : ℕ) (s : List ℕ) (es : List Entry) → Indexed k s (replicate bucket_count None) es 0
+index_none k s es = record {
   few = omega arith;
   heads = λ b l. ap up_to (get_or-replicate bucket_count b None None l)
       ∙ sym (last_nothing (bucket_has (bucket_in s es) b) 1 (λ j m. let z : j ≡ 0 = omega arith in rw z));
@@ -79,25 +79,25 @@ index_none s es = record {
   quoted = λ j l. absurd (omega arith);
 }
 
-module _ {s : List ℕ} {hs : List (Option ℕ)} {es : List Entry} {n : ℕ} (x : Indexed s hs es n) where
+module _ {k : ℕ} {s : List ℕ} {hs : List (Option ℕ)} {es : List Entry} {n : ℕ} (x : Indexed k s hs es n) where
   -- the places behind the first n are set anew
-  index_kept : {es₂ : List Entry} → ((j : ℕ) → j < n → entry_at es₂ j ≡ entry_at es j) → Indexed s hs es₂ n
+  index_kept : {es₂ : List Entry} → ((j : ℕ) → j < n → entry_at es₂ j ≡ entry_at es j) → Indexed k s hs es₂ n
   index_kept {es₂} p =
       let f = bucket_in s es in
       let g = bucket_in s es₂ in
-      let k : (j : ℕ) → j < n → g j ≡ f j = λ j l. rw (p j l) in
+      let w : (j : ℕ) → j < n → g j ≡ f j = λ j l. rw (p j l) in
       record {
         few = x.few;
-        heads = λ b l. x.heads b l ∙ sym (last_kept f g b n k);
-        links = λ j l. rw (p j l) (x.links j l ∙ sym (last_kept f g (f j) j (λ i m. k i (omega arith))));
+        heads = λ b l. x.heads b l ∙ sym (last_kept f g b n w);
+        links = λ j l. rw (p j l) (x.links j l ∙ sym (last_kept f g (f j) j (λ i m. w i (omega arith))));
         quoted = λ j l. rw (p j l) (x.quoted j l);
       }
 
-  pub index_head : {b : ℕ} → b < bucket_count → up_to (get_or hs b None) ≤ most_names
+  pub index_head : {b : ℕ} → b < bucket_count → up_to (get_or hs b None) ≤ k
   index_head {b} l = omega (arith, x.few, x.heads b l, last_most (bucket_has (bucket_in s es) b) (suc n))
 
   -- the name at n comes into the index: it leads to its bucket's last name, and is it now
-  module _ {b : ℕ} (e : b ≡ bucket_in s es n) (small : b < bucket_count) (long : Long hs es) where
+  module _ {b : ℕ} (e : b ≡ bucket_in s es n) (small : b < bucket_count) (long : Long k hs es) where
     more_heads : (c : ℕ) → c < bucket_count → up_to (get_or (set hs b (Some n)) c None) ≡ last_in (bucket_in s es) c (n + 1)
     more_heads c m = go (ℕ_discrete c b)
       where
@@ -109,8 +109,8 @@ module _ {s : List ℕ} {hs : List (Option ℕ)} {es : List Entry} {n : ℕ} (x 
             rw (get_or-set_other hs b c (Some n) None z, add-one)
             (x.heads c m ∙ sym (last_before (bucket_has (bucket_in s es) c) (suc n) (ne_eqb _ c (λ y. z (sym y ∙ sym e)))))
 
-    index_more : n < most_names → (entry_at es n).before ≡ get_or hs b None → IsQuoted s (entry_at es n).first (entry_at es n).end
-        → Indexed s (set hs b (Some n)) es (n + 1)
+    index_more : n < k → (entry_at es n).before ≡ get_or hs b None → IsQuoted s (entry_at es n).first (entry_at es n).end
+        → Indexed k s (set hs b (Some n)) es (n + 1)
     index_more l p q = record {
       few = omega arith;
       heads = more_heads;
@@ -119,47 +119,47 @@ module _ {s : List ℕ} {hs : List (Option ℕ)} {es : List Entry} {n : ℕ} (x 
     }
 
 -- a name is put behind the others
-pub index_push : {s : List ℕ} {hs : List (Option ℕ)} {es : List Entry} {n b : ℕ} {v : Entry} → Indexed s hs es n → b ≡ name_bucket (name_of s v.first v.end)
-    → b < bucket_count → n < most_names → Long hs es → v.before ≡ get_or hs b None → IsQuoted s v.first v.end → Indexed s (set hs b (Some n)) (set es n v) (n + 1)
-index_push {s} {hs} {es} {n} {b} {v} x p small l w e q =
-    let y : Indexed s hs (set es n v) n = index_kept x (λ j m. get_or-set_other es n j v no_entry (λ z. omega arith)) in
-    let long : Long hs (set es n v) = record { heads = w.heads; names = simp length-set w.names } in
+pub index_push : {k : ℕ} {s : List ℕ} {hs : List (Option ℕ)} {es : List Entry} {n b : ℕ} {v : Entry} → Indexed k s hs es n → b ≡ name_bucket (name_of s v.first v.end)
+    → b < bucket_count → n < k → Long k hs es → v.before ≡ get_or hs b None → IsQuoted s v.first v.end → Indexed k s (set hs b (Some n)) (set es n v) (n + 1)
+index_push {k} {s} {hs} {es} {n} {b} {v} x p small l w e q =
+    let y : Indexed k s hs (set es n v) n = index_kept x (λ j m. get_or-set_other es n j v no_entry (λ z. omega arith)) in
+    let long : Long k hs (set es n v) = record { heads = w.heads; names = simp length-set w.names } in
     let u : entry_at (set es n v) n ≡ v = get_or-set_same es n v no_entry (omega (arith, w.names)) in
     index_more y (rw u p) small long l (rw u e) (rw u q)
 
 -- ---- the names of an object, one after the other
 
--- the first i are indexed, and those of c are left
-pub record Indexing (s t : List ℕ) (r : ℕ) (hs : List (Option ℕ)) (es : List Entry) (i : ℕ) (c : Children 1) : Type 0 where
-  pub room : i + c.left ≤ most_names
-  pub long : Long hs es
-  pub index : Indexed s hs es i
+-- the first i are indexed, in room for k, and those of c are left
+pub record Indexing (k : ℕ) (s t : List ℕ) (r : ℕ) (hs : List (Option ℕ)) (es : List Entry) (i : ℕ) (c : Children 1) : Type 0 where
+  pub room : i + c.left ≤ k
+  pub long : Long k hs es
+  pub index : Indexed k s hs es i
   pub rest : Members
   pub ahead : NamesLeft s t c rest
   pub counts : (o : ObjectRow s t r) → i + c.left ≡ count_members o.members
   pub listed : (o : ObjectRow s t r) (j : ℕ) → j < i → listed_name s es j ≡ member_name s o.members j
   pub behind : (o : ObjectRow s t r) (j : ℕ) → member_name s rest j ≡ member_name s o.members (i + j)
 
-module _ {s t : List ℕ} {r : ℕ} where
-  pub indexing_start : (o : ObjectRow s t r) {c : Children 1} {hs : List (Option ℕ)} {es : List Entry} → Begins t r c → word t r 3 ≤ most_names
-      → (hs ≡ replicate bucket_count None) × (length es ≡ most_names) → Indexing s t r hs es 0 c
+module _ {k : ℕ} {s t : List ℕ} {r : ℕ} where
+  pub indexing_start : (o : ObjectRow s t r) {c : Children 1} {hs : List (Option ℕ)} {es : List Entry} → Begins t r c → word t r 3 ≤ k
+      → (hs ≡ replicate bucket_count None) × (length es ≡ k) → Indexing k s t r hs es 0 c
   indexing_start o {es = es} b l e = record {
     room = omega (arith, b.left);
     long = record { heads = rw e.0 (length-replicate {A = Option ℕ} bucket_count None); names = e.1 };
-    index = rw e.0 (index_none s es);
+    index = rw e.0 (index_none k s es);
     rest = o.members;
     ahead = names_start o b;
     counts = λ p. omega (arith, (names_start p b).members.counts);
     listed = λ p j m. absurd (omega arith);
-    behind = λ p j. let k : 0 + j ≡ j = omega arith in rw k (ap (λ (ms : Members). member_name s ms j) (same_members o p));
+    behind = λ p j. let z : 0 + j ≡ j = omega arith in rw z (ap (λ (ms : Members). member_name s ms j) (same_members o p));
   }
 
-  module _ {hs : List (Option ℕ)} {es : List Entry} {i : ℕ} {c : Children 1} (a : Indexing s t r hs es i c) where
+  module _ {hs : List (Option ℕ)} {es : List Entry} {i : ℕ} {c : Children 1} (a : Indexing k s t r hs es i c) where
     module _ {row : ℕ} {d : Children 1} (g : Passes c row d) where
       pub indexing_name : MemberHere s t row a.rest
       indexing_name = name_here a.ahead g
 
-      pub indexing_room : i < most_names
+      pub indexing_room : i < k
       indexing_room = omega (arith, a.room, g.some)
 
       module _ {x : Record} (p : Reads t row x) where
@@ -181,14 +181,14 @@ module _ {s t : List ℕ} {r : ℕ} where
             kept : j < i → listed_name s (set es i v) j ≡ member_name s o.members j
             kept u = rw (get_or-set_other es i j v no_entry (λ y. omega arith)) (a.listed o j u)
 
-        pub indexing_next : {b : ℕ} → Buckets s x.first b → v.before ≡ get_or hs b None → Indexing s t r (set hs b (Some i)) (set es i v) (i + 1) d
-        indexing_next {b} k e =
+        pub indexing_next : {b : ℕ} → Buckets s x.first b → v.before ≡ get_or hs b None → Indexing k s t r (set hs b (Some i)) (set es i v) (i + 1) d
+        indexing_next {b} u e =
             let quoted : IsQuoted s v.first v.end = rw (z.0, z.1) (quoted_read p indexing_name.quoted) in
             let w = a.long in
             record {
               room = omega (arith, a.room, g.some, g.left);
               long = record { heads = simp length-set w.heads; names = simp length-set w.names };
-              index = index_push a.index (rw (z.0, z.1) (k.tells x.end (quoted_read p indexing_name.quoted))) k.small indexing_room w e quoted;
+              index = index_push a.index (rw (z.0, z.1) (u.tells x.end (quoted_read p indexing_name.quoted))) u.small indexing_room w e quoted;
               rest = indexing_name.others;
               ahead = names_next a.ahead g indexing_name;
               counts = λ o. omega (arith, a.counts o, g.some, g.left);

@@ -1,4 +1,4 @@
--- An object against a definition under Object, on plain values: laws for the ways out of `judge_object`, `judge_fields`, `judge_wide` and
+-- An object against a definition under Object, on plain values: laws for the ways out of `judge_object`, `judge_fields`, `judge_found` and
 -- `judge_field`. The loops go through the fields of a part, in schema order; their invariants, `InFields` and `InWide`, say that what is left to judge
 -- answers for the whole, from the dates so far.
 use Prim.Native.Nat.{ℕ, ◌+◌, ◌-◌, ◌≤◌, ◌<◌}
@@ -7,7 +7,7 @@ use mathlib.Core.Bool.{Bool, true, false}
 use mathlib.Core.List.{List, ◌++◌}
 use native.Mathlib.Omega.{arith}
 use lib.Dec.{eqb}
-use lib.ListN.{replicate}
+use lib.ListN.{length, replicate, length-replicate}
 use borrow.Author.Tests.{eqb-true}
 use Rattle.std.specs.Prelude.{Option, Some, None, Ok, Err}
 use Rattle.model.specs.Text.{text}
@@ -23,7 +23,7 @@ use Rattle.schema.specs.Walks.{Walks, Judgeable, Judged, BodyJudgeable, FieldsJu
 use Rattle.rows.specs.Children.{Passes, Begins}
 use Rattle.rows.specs.Records.{Reads, ObjectRow}
 use Rattle.rows.specs.Finding.{lookup, Finds}
-use Rattle.rows.specs.Matching.{most_names, found_at, Matches}
+use Rattle.rows.specs.Matching.{found_at, Matches}
 use Rattle.rows.specs.declared.children.Children.{Children}
 use Rattle.rows.specs.declared.records.Record.{Record}
 use Rattle.schema.specs.declared.dates.Dates.{Dates}
@@ -188,12 +188,19 @@ module _ {s₁ s₂ t₁ t₂ : List ℕ} {r₁ : ℕ} {r₂ : Option ℕ} {requ
 -- the same where what stands under each name was found before, in vs: i fields are judged
 pub record InWide (s₁ s₂ t₁ t₂ : List ℕ) (r₁ : ℕ) (r₂ : Option ℕ) (required : Bool) (vs : List (Option ℕ)) (i : ℕ) (c : Children 1) (d₀ d : Dates) : Type 0 where
   pub ahead : InFields s₁ s₂ t₁ t₂ r₁ r₂ required c d₀ d
-  pub few : i + c.left ≤ most_names
+  pub few : i + c.left ≤ length vs
   pub matched : Answers (Finds s₁ t₁ r₁) s₂ ahead.ahead.rest vs i c.left
 
+-- what was found in room for k names
+pub room_found : {s₁ s₂ t₁ t₂ : List ℕ} {r₁ r₂ k : ℕ} {vs : List (Option ℕ)} → word t₂ r₂ 3 ≤ k → Matches s₁ t₁ r₁ s₂ t₂ r₂ (replicate k None) vs
+    → (word t₂ r₂ 3 ≤ length vs) × Matches s₁ t₁ r₁ s₂ t₂ r₂ (replicate (length vs) None) vs
+room_found {k = k} {vs} few m =
+    let l : length vs ≡ k = m.long ∙ length-replicate {A = Option ℕ} k None in
+    (omega (arith, few, l), rw l m)
+
 module _ {s₁ s₂ t₁ t₂ : List ℕ} {r₁ : ℕ} {required : Bool} {vs : List (Option ℕ)} {c : Children 1} where
-  pub wide_start : {r₂ : ℕ} (j : FieldsJudgeable s₁ s₂ t₁ t₂ r₁ (Some r₂)) → Begins t₂ r₂ c → word t₂ r₂ 3 ≤ most_names
-      → Matches s₁ t₁ r₁ s₂ t₂ r₂ (replicate most_names None) vs → {d : Dates} → InWide s₁ s₂ t₁ t₂ r₁ (Some r₂) required vs 0 c d d
+  pub wide_start : {r₂ : ℕ} (j : FieldsJudgeable s₁ s₂ t₁ t₂ r₁ (Some r₂)) → Begins t₂ r₂ c → word t₂ r₂ 3 ≤ length vs
+      → Matches s₁ t₁ r₁ s₂ t₂ r₂ (replicate (length vs) None) vs → {d : Dates} → InWide s₁ s₂ t₁ t₂ r₁ (Some r₂) required vs 0 c d d
   unfolding fields_begin
   wide_start j b few m =
       let o = fields_object j in

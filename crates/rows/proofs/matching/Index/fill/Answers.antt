@@ -10,30 +10,30 @@ use Rattle.rows.proofs.matching.Laws.{compared, along_begin, along_name, along_n
 use Rattle.rows.proofs.matching.Index.fill.Goals as goal
 
 pub between-key-requires : goal.between-key-requires
-between-key-requires c = quotes_read c.row_at-name.ensures c.requires.quoted
+between-key-requires g c = quotes_read c.row_at-name.ensures c.requires.quoted
 
 pub loop-next-init : goal.loop-next-init
-loop-next-init c = along_begin c.requires.found_len (read_bucket c.row_at-name.ensures c.bucket.ensures c.requires.quoted)
+loop-next-init g c = along_begin c.requires.found_len (read_bucket c.row_at-name.ensures c.bucket.ensures c.requires.quoted)
 
 pub bounds-self-j : goal.bounds-self-j
-bounds-self-j c = (along_name c.loop-next.invariant c.in-Some.is c.requires.has_index).room
+bounds-self-j g c = (along_name c.loop-next.invariant c.in-Some.is c.requires.has_index).room
 
 pub between-requires : goal.between-requires
-between-requires c = (along_name c.loop-next.invariant c.in-Some.is c.requires.has_index).quotes
+between-requires g c = (along_name c.loop-next.invariant c.in-Some.is c.requires.has_index).quotes
 
 pub bounds-found-j : goal.bounds-found-j
-bounds-found-j c = (along_name c.loop-next.invariant c.in-Some.is c.requires.has_index).room
+bounds-found-j g c = (along_name c.loop-next.invariant c.in-Some.is c.requires.has_index).room
 
 pub bounds-found-j-in-Some : goal.bounds-found-j-in-Some
-bounds-found-j-in-Some c = (along_name c.loop-next.invariant c.in-Some.is c.requires.has_index).room
+bounds-found-j-in-Some g c = (along_name c.loop-next.invariant c.in-Some.is c.requires.has_index).room
 
 pub loop-next-smaller : goal.loop-next-smaller
-loop-next-smaller c =
+loop-next-smaller g c =
     let above : up_to c.loop-next.next ≡ suc c.in-Some.place = ap up_to c.in-Some.is in
     omega (arith, (along_name c.loop-next.invariant c.in-Some.is c.requires.has_index).less, above)
 
 pub loop-next-preserved : goal.loop-next-preserved
-loop-next-preserved c =
+loop-next-preserved g c =
     let key : c.between-key.result.now ≡ part c.args.tree.text.now (word c.args.tree.table.now c.args.row 1 + 1) (word c.args.tree.table.now c.args.row 2 - 1) =
     rw (c.row_at-name.ensures.first, c.row_at-name.ensures.last) at c.between-key.ensures
     in
@@ -41,4 +41,4 @@ loop-next-preserved c =
     (compared c.between.ensures key c.same_name-same.ensures) c.settle.ensures
 
 pub returns : goal.returns
-returns c = along_end c.loop-next.invariant c.requires.found_len c.in_default.is
+returns g c = along_end c.loop-next.invariant c.requires.found_len c.in_default.is

@@ -7,8 +7,8 @@ use Rattle.rows.proofs.matching.Laws.{Along}
 use Rattle.rows.proofs.matching.Index.fill.Given as goal
 
 abbrev pub invariant-loop-next : goal.invariant-loop-next
-invariant-loop-next l =
+invariant-loop-next g l =
     Along l.self (name_of l.tree.text.now (word l.tree.table.now l.row 1) (word l.tree.table.now l.row 2)) (l.row + 1) l.initial.found l.found l.next
 
 abbrev pub decreases-loop-next : goal.decreases-loop-next
-decreases-loop-next l = up_to l.next
+decreases-loop-next g l = up_to l.next

@@ -14,8 +14,8 @@ use Rattle.comparison.proofs.carrying.Shapes.{object_less, required_pair, option
 use Rattle.comparison.proofs.carrying.Fields.{failing_start, failing_end, field_less, field_pair, field_fails}
 use Rattle.comparison.proofs.carrying.Fields.{field_next, wide_start, wide_found, wide_next}
 use Rattle.comparison.proofs.carrying.Fields.{found_pair, field_carried}
-use Rattle.comparison.proofs.carrying.+carried_carried_field_carried_found_carried_to_array_carried_to_map_carried_to_object_failing_field_failing_wide.Goals.{carried_to_object-then-of_objects, carried_to_object-else-of_objects}
-use Rattle.comparison.proofs.carrying.+carried_carried_field_carried_found_carried_to_array_carried_to_map_carried_to_object_failing_field_failing_wide.Goals as goal
+use Rattle.comparison.proofs.carrying.+carried_carried_field_carried_found_carried_to_array_carried_to_map_carried_to_object_failing_field_failing_found_failing_wide_failing_widest.Goals.{carried_to_object-then-of_objects, carried_to_object-else-of_objects}
+use Rattle.comparison.proofs.carrying.+carried_carried_field_carried_found_carried_to_array_carried_to_map_carried_to_object_failing_field_failing_found_failing_wide_failing_widest.Goals as goal
 
 -- ---- carried
 
@@ -156,26 +156,26 @@ failing_field-loop-row-preserved t c = field_next c.loop-row.invariant c.in-Some
 pub failing_field-returns : goal.failing_field-returns
 failing_field-returns t c = rw c.in_ok-object.was (failing_end c.loop-row.invariant c.in-None.ensures.steps)
 
--- ---- failing_wide
+-- ---- failing_found
 
-pub failing_wide-loop-i-init : goal.failing_wide-loop-i-init
-failing_wide-loop-i-init t c =
+pub failing_found-loop-i-init : goal.failing_found-loop-i-init
+failing_found-loop-i-init t c =
     rw (c.into_iter-i-iterator.ensures.into_iter_gives, c.enumerate-i-items.ensures.source, c.enumerate-i-items.ensures.count)
-    (wide_start c.requires.fields_pairing c.members.ensures c.requires.many_names.few c.match_under.ensures)
+    (wide_start c.requires.fields_pairing c.members.ensures c.requires.few c.requires.matches)
 
-pub failing_wide-carried_found-requires : goal.failing_wide-carried_found-requires
-failing_wide-carried_found-requires t c = (
+pub failing_found-carried_found-requires : goal.failing_found-carried_found-requires
+failing_found-carried_found-requires t c = (
   omega (arith, field_less c.loop-i.invariant.ahead c.in-Some.ensures.steps.0),
   (field_pair c.loop-i.invariant.ahead c.in-Some.ensures.steps.0, rw c.in-Some.ensures.steps.1 (wide_found c.loop-i.invariant c.in-Some.ensures.steps.0)),
 )
 
-pub failing_wide-returns-then-not-carried_found : goal.failing_wide-returns-then-not-carried_found
-failing_wide-returns-then-not-carried_found t c =
+pub failing_found-returns-then-not-carried_found : goal.failing_found-returns-then-not-carried_found
+failing_found-returns-then-not-carried_found t c =
     field_fails c.loop-i.invariant.ahead c.in-Some.ensures.steps.0 c.if-not-carried_found.ensures
 
-pub failing_wide-loop-i-preserved : goal.failing_wide-loop-i-preserved
-failing_wide-loop-i-preserved t c =
+pub failing_found-loop-i-preserved : goal.failing_found-loop-i-preserved
+failing_found-loop-i-preserved t c =
     rw c.in-Some.ensures.steps.2 (wide_next c.loop-i.invariant c.in-Some.ensures.steps.0 c.if-not-carried_found.ensures)
 
-pub failing_wide-returns : goal.failing_wide-returns
-failing_wide-returns t c = failing_end c.loop-i.invariant.ahead c.in-None.ensures.steps.0
+pub failing_found-returns : goal.failing_found-returns
+failing_found-returns t c = failing_end c.loop-i.invariant.ahead c.in-None.ensures.steps.0

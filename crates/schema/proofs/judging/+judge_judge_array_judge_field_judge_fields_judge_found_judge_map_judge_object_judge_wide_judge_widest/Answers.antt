@@ -1,17 +1,17 @@
 use Prim.Native.Nat.{◌≤◌}
+use mathlib.Core.Path.{◌≡◌, ap}
 use native.Mathlib.Omega.{arith}
-use borrow.Author.Tests.{not-false}
 use Rattle.std.proofs.lemmas.Result.{err_from_is_err_and}
 use Rattle.syntax.specs.Holding.{word}
 use Rattle.rows.specs.Matching.{most_names}
-use Rattle.definitions.proofs.Facts.{spelled, field_here}
+use Rattle.definitions.proofs.Facts.{spelled, field_here, part_rows}
 use Rattle.rows.proofs.Facts.{in_table, as_row, quotes_read}
 use Rattle.schema.proofs.judging.Values.{by_generic, turn_stops, array_other, array_given, array_start, array_turn, array_next, array_end}
 use Rattle.schema.proofs.judging.Values.{map_other, map_given, map_start, map_turn, map_next, map_end}
 use Rattle.schema.proofs.judging.Fields.{object_other, object_start, required_given, optional_given, required_stops, optional_ends}
 use Rattle.schema.proofs.judging.Fields.{fields_begin, fields_judged, fields_sought, sought_field, field_judgeable, field_fails, field_next}
-use Rattle.schema.proofs.judging.Fields.{wide_start, wide_sought, wide_next, wide_end, field_value, field_found}
-use Rattle.schema.proofs.judging.+judge_judge_array_judge_field_judge_fields_judge_map_judge_object_judge_wide.Goals as goal
+use Rattle.schema.proofs.judging.Fields.{room_found, wide_start, wide_sought, wide_next, wide_end, field_value, field_found}
+use Rattle.schema.proofs.judging.+judge_judge_array_judge_field_judge_fields_judge_found_judge_map_judge_object_judge_wide_judge_widest.Goals as goal
 
 -- ---- judge
 
@@ -206,31 +206,51 @@ judge_fields-returns t c = fields_judged c.loop-row.invariant c.in-None.ensures.
 
 -- ---- judge_wide
 
-pub judge_wide-loop-i-init : goal.judge_wide-loop-i-init
-judge_wide-loop-i-init t c =
+pub judge_wide-judge_widest-requires : goal.judge_wide-judge_widest-requires
+judge_wide-judge_widest-requires t c =
+    let rows : part_rows c.args.schema.table.now c.args.fields ≡ word c.args.schema.table.now c.in-Some.object 4 =
+    ap (part_rows c.args.schema.table.now) c.in-Some.is in
     let few : word c.args.schema.table.now c.in-Some.object 3 ≤ most_names =
-    omega (arith, c.wide.ensures (not-false _ (rw c.if-not-wide.false)), c.row_at-names.ensures.children) in
-    rw (c.in-Some.is, c.into_iter-i-iterator.ensures.into_iter_gives, c.enumerate-i-items.ensures.source, c.enumerate-i-items.ensures.count)
-    (wide_start (rw c.in-Some.is at c.requires) c.members.ensures few c.match_names.ensures)
+    omega (arith, c.wide.ensures c.if-not-wide.false, c.row_at-names.ensures.children) in
+    (omega (arith, rows, c.decreases), (rw c.in-Some.is at c.requires, few))
 
-pub judge_wide-judge_field-requires : goal.judge_wide-judge_field-requires
-judge_wide-judge_field-requires t c =
-    let p = c.in-Some-2.ensures.steps in
+pub judge_wide-judge_found-requires : goal.judge_wide-judge_found-requires
+judge_wide-judge_found-requires t c =
+    let rows : part_rows c.args.schema.table.now c.args.fields ≡ word c.args.schema.table.now c.in-Some.object 4 =
+    ap (part_rows c.args.schema.table.now) c.in-Some.is in
+    let few : word c.args.schema.table.now c.in-Some.object 3 ≤ 512 = omega (arith, c.if-names-gt-SOME_NAMES.false, c.row_at-names.ensures.children) in
+    (omega (arith, rows, c.decreases), (rw c.in-Some.is at c.requires, room_found few c.match_names.ensures))
+
+-- ---- judge_widest
+
+pub judge_widest-judge_found-requires : goal.judge_widest-judge_found-requires
+judge_widest-judge_found-requires t c = (omega (arith, c.decreases), (c.requires.judgeable, room_found c.requires.few c.match_names.ensures))
+
+-- ---- judge_found
+
+pub judge_found-loop-i-init : goal.judge_found-loop-i-init
+judge_found-loop-i-init t c =
+    rw (c.into_iter-i-iterator.ensures.into_iter_gives, c.enumerate-i-items.ensures.source, c.enumerate-i-items.ensures.count)
+    (wide_start c.requires.judgeable c.members.ensures c.requires.few c.requires.matches)
+
+pub judge_found-judge_field-requires : goal.judge_found-judge_field-requires
+judge_found-judge_field-requires t c =
+    let p = c.in-Some.ensures.steps in
     let i = wide_sought c.loop-i.invariant p.0 p.1 in
     (omega (arith, (sought_field i).less, c.decreases), field_judgeable i)
 
-pub judge_wide-loop-i-preserved : goal.judge_wide-loop-i-preserved
-judge_wide-loop-i-preserved t c =
-    let p = c.in-Some-2.ensures.steps in wide_next c.loop-i.invariant p.0 p.1 c.judge_field.ensures c.in_ok-judge_field.was p.2
+pub judge_found-loop-i-preserved : goal.judge_found-loop-i-preserved
+judge_found-loop-i-preserved t c =
+    let p = c.in-Some.ensures.steps in wide_next c.loop-i.invariant p.0 p.1 c.judge_field.ensures c.in_ok-judge_field.was p.2
 
-pub judge_wide-returns-in_err-judge_field : goal.judge_wide-returns-in_err-judge_field
-judge_wide-returns-in_err-judge_field t c =
-    let p = c.in-Some-2.ensures.steps in
+pub judge_found-returns-in_err-judge_field : goal.judge_found-returns-in_err-judge_field
+judge_found-returns-in_err-judge_field t c =
+    let p = c.in-Some.ensures.steps in
     let exit = err_from_is_err_and c.from_residual.result c.from_residual.ensures.1 in
     rw (exit.1, exit.2) (field_fails (wide_sought c.loop-i.invariant p.0 p.1) c.judge_field.ensures c.in_err-judge_field.was)
 
-pub judge_wide-returns : goal.judge_wide-returns
-judge_wide-returns t c = wide_end c.loop-i.invariant c.in-None.ensures.steps.0
+pub judge_found-returns : goal.judge_found-returns
+judge_found-returns t c = wide_end c.loop-i.invariant c.in-None.ensures.steps.0
 
 -- ---- judge_field
 
