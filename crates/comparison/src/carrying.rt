@@ -106,8 +106,8 @@ pub fn failing_field(
     None
 }
 
-// The same where both have many names: each is looked up by an index, in room by how many the old ones are. All of the room is cleared, so few
-// names are given less; and each room has a frame of its own.
+// The same where both have many names: each is looked up by an index, in room by how many the old ones are. All of the room is cleared, so up
+// to `SOME_NAMES` are given less; and each room has a frame of its own.
 #[cycle(carried_carried_field_carried_found_carried_to_array_carried_to_map_carried_to_object_failing_field_failing_found_failing_wide_failing_widest)]
 #[inline(never)]
 fn failing_wide(new: Tree, old: Tree, a: usize, object: usize, required: bool) -> Option<usize>

@@ -208,7 +208,7 @@ fn judge_fields(
 }
 
 // The same of an object with many members: where the fields are many too, each name is looked up by an index, in room by how many they are. All of
-// the room is cleared, so few names are given less; and each room has a frame of its own.
+// the room is cleared, so up to `SOME_NAMES` are given less; and each room has a frame of its own.
 #[cycle(judge_judge_array_judge_field_judge_fields_judge_found_judge_map_judge_object_judge_wide_judge_widest)]
 #[inline(never)]
 fn judge_wide(

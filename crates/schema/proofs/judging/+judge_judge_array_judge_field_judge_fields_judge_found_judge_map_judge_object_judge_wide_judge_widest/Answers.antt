@@ -218,7 +218,7 @@ pub judge_wide-judge_found-requires : goal.judge_wide-judge_found-requires
 judge_wide-judge_found-requires t c =
     let rows : part_rows c.args.schema.table.now c.args.fields ≡ word c.args.schema.table.now c.in-Some.object 4 =
     ap (part_rows c.args.schema.table.now) c.in-Some.is in
-    let few : word c.args.schema.table.now c.in-Some.object 3 ≤ 512 = omega (arith, c.if-names-gt-SOME_NAMES.false, c.row_at-names.ensures.children) in
+    let few : word c.args.schema.table.now c.in-Some.object 3 ≤ 1024 = omega (arith, c.if-names-gt-SOME_NAMES.false, c.row_at-names.ensures.children) in
     (omega (arith, rows, c.decreases), (rw c.in-Some.is at c.requires, room_found few c.match_names.ensures))
 
 -- ---- judge_widest
