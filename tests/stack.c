@@ -177,7 +177,7 @@ static struct text first, second;
 
 /*
  * More stack than this much a call is sure to need, by its texts; less shows that nothing was measured. In eight nested
- * objects with many names each has room of more than 16 KiB for what is found under them.
+ * objects with many names each has room of 16 KiB for what is found under them.
  */
 enum { SHORT = 256, LONG = 65536, WIDE = 8 * 16384 };
 
