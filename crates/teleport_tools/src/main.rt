@@ -49,9 +49,8 @@ const COMMANDS: [Usage<Command>; 4] = [
     },
 ];
 
-// Loads the first file, and runs the command.
-fn run(rt: &(impl Env + Files + RandomSource + Print)) -> Result<(), NoFile> {
-    let command = asked(rt, &COMMANDS).ok_or(NoFile)?;
+// Loads the first file, and runs the command. Its caller has found it: with that in here too, the compiler clears the room twice.
+fn run(rt: &(impl Env + Files + RandomSource + Print), command: Command) -> Result<(), NoFile> {
     let mut first = [0u8; TEXT];
     let first = load(rt, 2, &mut first)?;
     let mut table1 = [0u32; TABLE];
@@ -88,7 +87,11 @@ fn run_two(
 }
 
 fn main(rt: HostRuntime) {
-    if let Err(no_file) = run(&rt) {
+    let done = match asked(&rt, &COMMANDS) {
+        Some(command) => run(&rt, command),
+        None => Err(NoFile),
+    };
+    if let Err(no_file) = done {
         print_line(&rt, no_file);
     }
 }
