@@ -2,7 +2,9 @@
 ghost use Rattle.std.specs.Prelude.{◌≡◌, ◌<◌};
 ghost use Rattle.chars.specs.Hashing.{mix, finish, hashed_at};
 
+use crate::bytes::peek;
 use crate::characters::{Step, char_at};
+use crate::plain::is_plain;
 use crate::refusals::Reading;
 
 // Where a name ends, behind its closing quote, and the hash of its characters.
@@ -34,6 +36,13 @@ pub fn hashed_end(text: &[u8], at: usize) -> Reading<Hashed>
     let mut h: u64 = 0;
     let mut i = at;
     loop {
+        // A byte that stands for itself is told here, so that no result is made of it: most are such.
+        let b = peek(text, i);
+        if is_plain(b) {
+            h = mix(h, u32::from(b));
+            i += 1;
+            continue;
+        }
         match char_at(text, i)? {
             Step::Char { value, next } => {
                 h = mix(h, value);

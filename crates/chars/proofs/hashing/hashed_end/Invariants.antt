@@ -4,8 +4,8 @@ use lib.ListN.{length}
 use Rattle.chars.proofs.hashing.Laws.{SoFar}
 use Rattle.chars.proofs.hashing.hashed_end.Given as goal
 
-abbrev pub invariant-loop-value : goal.invariant-loop-value
-invariant-loop-value l = SoFar l.text l.at l.h l.i
+abbrev pub invariant-loop-h : goal.invariant-loop-h
+invariant-loop-h l = SoFar l.text l.at l.h l.i
 
-abbrev pub decreases-loop-value : goal.decreases-loop-value
-decreases-loop-value l = length l.text - l.i
+abbrev pub decreases-loop-h : goal.decreases-loop-h
+decreases-loop-h l = length l.text - l.i
