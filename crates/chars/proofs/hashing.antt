@@ -1,2 +1,3 @@
+pub mod Escapes
 pub mod Last
 pub mod Laws

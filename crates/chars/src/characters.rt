@@ -136,7 +136,8 @@ fn escape(text: &[u8], at: usize) -> Reading<Step>
     })
 }
 
-// The characters of UTF-8 with two, three and four bytes, of which the first is `b`.
+// The characters of UTF-8 with two, three and four bytes, of which the first is `b`. The longer are inlined: a result that `special` takes from
+// a call is copied in other pieces than it was written in, for which the processor waits.
 #[tactic(auto, unfolding(crate::specs::Characters::two_at))]
 fn two(text: &[u8], at: usize, b: u8) -> Reading<Step>
     requires { (at ≤ length text.now) × (0xC2 ≤ b) × (b < 0xE0) }
@@ -152,6 +153,7 @@ fn two(text: &[u8], at: usize, b: u8) -> Reading<Step>
 }
 
 #[tactic(auto, using(crate::proofs::bytes::Laws::lowest_least), unfolding(crate::specs::Characters::three_at))]
+#[inline(always)]
 fn three(text: &[u8], at: usize, b: u8) -> Reading<Step>
     requires { (at ≤ length text.now) × (0xE0 ≤ b) × (b < 0xF0) }
     ensures { result ≡ three_at text.now at b }
@@ -169,6 +171,7 @@ fn three(text: &[u8], at: usize, b: u8) -> Reading<Step>
 }
 
 #[tactic(auto, using(crate::proofs::bytes::Laws::lowest_least), unfolding(crate::specs::Characters::four_at))]
+#[inline(always)]
 fn four(text: &[u8], at: usize, b: u8) -> Reading<Step>
     requires { (at ≤ length text.now) × (0xF0 ≤ b) × (b < 0xF5) }
     ensures { result ≡ four_at text.now at b }

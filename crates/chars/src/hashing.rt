@@ -2,7 +2,7 @@
 ghost use Rattle.std.specs.Prelude.{◌≡◌, ◌<◌};
 ghost use Rattle.chars.specs.Hashing.{mix, finish, hashed_at};
 
-use crate::bytes::peek;
+use crate::bytes::{escape_of, peek};
 use crate::characters::{Step, char_at};
 use crate::plain::is_plain;
 use crate::refusals::Reading;
@@ -36,12 +36,19 @@ pub fn hashed_end(text: &[u8], at: usize) -> Reading<Hashed>
     let mut h: u64 = 0;
     let mut i = at;
     loop {
-        // A byte that stands for itself is told here, so that no result is made of it: most are such.
+        // Bytes that stand for themselves and escapes of two bytes are told here, so that no result is made of them.
         let b = peek(text, i);
         if is_plain(b) {
             h = mix(h, u32::from(b));
             i += 1;
             continue;
+        }
+        if b == b'\\' {
+            if let Some(c) = escape_of(peek(text, i + 1)) {
+                h = mix(h, u32::from(c));
+                i += 2;
+                continue;
+            }
         }
         match char_at(text, i)? {
             Step::Char { value, next } => {

@@ -57,6 +57,8 @@ fn object_at(tree: Tree, row: usize) -> Result<(), Fault>
 }
 
 // The row of the object under a name, given as the bytes between its quotes, in the object at a row, where anything stands there.
+// It is inlined, as are the body and the fields below: a tree that comes in only to be handed on is copied at once, for which the processor waits.
+#[inline(always)]
 fn part_under(tree: Tree, body: usize, key: &[u8]) -> Result<Option<usize>, Fault>
     requires { ObjectRow tree.text.now tree.table.now body }
     ensures { PartUnder tree.entry.text.now tree.entry.table.now body (characters key.now) result }
@@ -69,6 +71,8 @@ fn part_under(tree: Tree, body: usize, key: &[u8]) -> Result<Option<usize>, Faul
 }
 
 // The first name of the optional members that a required member has too, by the rows of their objects, where there are any.
+// It is not: with its loops in the code of `define`, Check of the widest schema takes up to half more time.
+#[inline(never)]
 fn first_shared(tree: Tree, required: Option<usize>, optional: Option<usize>) -> Result<(), Fault>
     requires part_row { PartRow tree.text.now tree.table.now required }
     requires part_row_2 { PartRow tree.text.now tree.table.now optional }
@@ -123,6 +127,7 @@ pub fn define(tree: Tree, row: usize) -> Result<(), Fault>
 
 // The first fault of the value at a row as the body of an Object.
 #[cycle(define_define_body_define_fields)]
+#[inline(always)]
 fn define_body(tree: Tree, row: usize) -> Result<(), Fault>
     requires { Rowed tree.text.now tree.table.now row }
     ensures { DefinesBody tree.entry.text.now tree.entry.table.now row result }
@@ -137,6 +142,7 @@ fn define_body(tree: Tree, row: usize) -> Result<(), Fault>
 
 // The first fault of the definitions under the names of the object at a row, where there is one.
 #[cycle(define_define_body_define_fields)]
+#[inline(always)]
 fn define_fields(tree: Tree, fields: Option<usize>) -> Result<(), Fault>
     requires { PartRow tree.text.now tree.table.now fields }
     ensures { DefinesFields tree.entry.text.now tree.entry.table.now fields result }

@@ -14,7 +14,7 @@ pub const MOST_NAMES: usize = 2048;
 
 const BUCKETS: usize = 1024;
 
-// Up to so many names are given less room, since all of it is cleared.
+// Up to so many names get room for so many, and not for `MOST_NAMES`: all of it is cleared.
 pub const SOME_NAMES: usize = 1024;
 
 // With fewer names on either side they are looked up one by one.

@@ -183,7 +183,9 @@ fn judge_object(
 }
 
 // The object at row `at` of the document against the fields of the object at a row of the schema, in their order, where there is one.
+// It is inlined: a tree that comes in only to be handed on is copied at once, for which the processor waits.
 #[cycle(judge_judge_array_judge_field_judge_fields_judge_found_judge_map_judge_object_judge_wide_judge_widest)]
+#[inline(always)]
 fn judge_fields(
     document: Tree,
     schema: Tree,

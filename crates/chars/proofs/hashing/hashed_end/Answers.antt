@@ -3,6 +3,7 @@ use native.Mathlib.Omega.{arith}
 use Rattle.std.proofs.lemmas.Result.{err_from_is_err_and}
 use Rattle.chars.proofs.plain.Laws.{plain_read}
 use Rattle.chars.proofs.strings.Laws.{char_next, quote_in, stands}
+use Rattle.chars.proofs.hashing.Escapes.{short_char}
 use Rattle.chars.proofs.hashing.Laws.{far_begin, far_next, far_end, far_stop}
 use Rattle.chars.proofs.hashing.hashed_end.Goals as goal
 
@@ -36,3 +37,9 @@ overflow_add-result c = omega (arith, quote_in _ _ (stands _ _ c.char_at.ensures
 
 pub returns-in-Quote : goal.returns-in-Quote
 returns-in-Quote c = rw c.finish.ensures (sym (far_end c.loop-h.invariant (stands _ _ c.char_at.ensures c.in_ok-value.was c.in-Quote.is)))
+
+pub loop-h-preserved-in-Some : goal.loop-h-preserved-in-Some
+loop-h-preserved-in-Some c =
+    rw (c.mix-h-in-Some.ensures, c.from-in-Some.ensures)
+    (far_next c.loop-h.invariant
+    (short_char _ _ c.peek-b.ensures c.if-b-eq92.true (rw c.peek.ensures at (sym c.escape_of.ensures ∙ c.in-Some.is))))
