@@ -5,7 +5,6 @@ use mathlib.Core.Path.{◌≡◌, refl, sym, ap, subst, ◌∙◌}
 use mathlib.Core.Bool.{Bool, true, false, cond}
 use mathlib.Core.List.{List}
 use native.Mathlib.Omega.{arith}
-use lib.ListN.{length}
 use Rattle.std.specs.Prelude.{Option, Some, None}
 use Rattle.model.specs.Definition.{Def}
 use Rattle.model.specs.Subtype.{subtype}
@@ -90,15 +89,15 @@ module _ {s₁ s₂ t₁ t₂ : List ℕ} {r₁ r₂ : ℕ} {required : Bool} {c
         stays = all_fields h;
       }
 
--- the same where what the new definition has under each name was found before, in vs: i fields are compared
-pub record InWide (s₁ s₂ t₁ t₂ : List ℕ) (r₁ r₂ : ℕ) (required : Bool) (vs : List (Option ℕ)) (i : ℕ) (c : Children 1) : Type 0 where
-  pub few : i + c.left ≤ length vs
+-- the same where what the new definition has under each name was found before, in vs: i fields are compared, where there is room for so many
+pub record InWide (room : ℕ) (s₁ s₂ t₁ t₂ : List ℕ) (r₁ r₂ : ℕ) (required : Bool) (vs : List (Option ℕ)) (i : ℕ) (c : Children 1) : Type 0 where
+  pub few : i + c.left ≤ room
   pub ahead : InFields s₁ s₂ t₁ t₂ r₁ r₂ required c
   pub matched : Answers (λ n v. FindsUnder s₁ t₁ r₁ n required v) s₂ ahead.ahead.rest vs i c.left
 
-module _ {s₁ s₂ t₁ t₂ : List ℕ} {r₁ r₂ : ℕ} {required : Bool} {vs : List (Option ℕ)} {c : Children 1} where
-  pub wide_start : (p : FieldsPairing s₁ s₂ t₁ t₂ r₁ (Some r₂)) → Begins t₂ r₂ c → word t₂ r₂ 3 ≤ length vs → MatchesUnder s₁ t₁ r₁ s₂ t₂ r₂ required vs
-      → InWide s₁ s₂ t₁ t₂ r₁ r₂ required vs 0 c
+module _ {room : ℕ} {s₁ s₂ t₁ t₂ : List ℕ} {r₁ r₂ : ℕ} {required : Bool} {vs : List (Option ℕ)} {c : Children 1} where
+  pub wide_start : (p : FieldsPairing s₁ s₂ t₁ t₂ r₁ (Some r₂)) → Begins t₂ r₂ c → word t₂ r₂ 3 ≤ room → MatchesUnder s₁ t₁ r₁ s₂ t₂ r₂ required vs
+      → InWide room s₁ s₂ t₁ t₂ r₁ r₂ required vs 0 c
   unfolding failing_start
   wide_start p b few m =
       let o = part_object p.old.part refl in
@@ -109,14 +108,14 @@ module _ {s₁ s₂ t₁ t₂ : List ℕ} {r₁ r₂ : ℕ} {required : Bool} {v
         matched = answers_start (λ j h. m.tells o j (omega arith));
       }
 
-  module _ {i : ℕ} (a : InWide s₁ s₂ t₁ t₂ r₁ r₂ required vs i c) {row : ℕ} {d : Children 1} (p : Passes c row d) where
+  module _ {i : ℕ} (a : InWide room s₁ s₂ t₁ t₂ r₁ r₂ required vs i c) {row : ℕ} {d : Children 1} (p : Passes c row d) where
     abbrev member : MemberHere s₂ t₂ row a.ahead.ahead.rest
     member = name_here a.ahead.ahead.ahead p
 
     pub wide_found : FindsUnder s₁ t₁ r₁ (name_of s₂ (word t₂ row 1) (word t₂ row 2)) required (found_at vs i)
     wide_found = answers_here a.matched p member
 
-    pub wide_next : FieldDecided s₁ s₂ t₁ t₂ r₁ row required true → InWide s₁ s₂ t₁ t₂ r₁ r₂ required vs (i + 1) d
+    pub wide_next : FieldDecided s₁ s₂ t₁ t₂ r₁ row required true → InWide room s₁ s₂ t₁ t₂ r₁ r₂ required vs (i + 1) d
     unfolding field_next
     wide_next h = record {
       few = omega (arith, a.few, p.some, p.left);

@@ -185,10 +185,11 @@ module _ {s₁ s₂ t₁ t₂ : List ℕ} {r₁ : ℕ} {r₂ : Option ℕ} {requ
       onward = λ w. with_others (walks_on told q w);
     }
 
--- the same where what stands under each name was found before, in vs: i fields are judged
-pub record InWide (s₁ s₂ t₁ t₂ : List ℕ) (r₁ : ℕ) (r₂ : Option ℕ) (required : Bool) (vs : List (Option ℕ)) (i : ℕ) (c : Children 1) (d₀ d : Dates) : Type 0 where
+-- the same where what stands under each name was found before, in vs: i fields are judged, where there is room for so many
+pub record InWide (room : ℕ) (s₁ s₂ t₁ t₂ : List ℕ) (r₁ : ℕ) (r₂ : Option ℕ) (required : Bool) (vs : List (Option ℕ)) (i : ℕ)
+    (c : Children 1) (d₀ d : Dates) : Type 0 where
   pub ahead : InFields s₁ s₂ t₁ t₂ r₁ r₂ required c d₀ d
-  pub few : i + c.left ≤ length vs
+  pub few : i + c.left ≤ room
   pub matched : Answers (Finds s₁ t₁ r₁) s₂ ahead.ahead.rest vs i c.left
 
 -- what was found in room for k names
@@ -198,9 +199,9 @@ room_found {k = k} {vs} few m =
     let l : length vs ≡ k = m.long ∙ length-replicate {A = Option ℕ} k None in
     (omega (arith, few, l), rw l m)
 
-module _ {s₁ s₂ t₁ t₂ : List ℕ} {r₁ : ℕ} {required : Bool} {vs : List (Option ℕ)} {c : Children 1} where
-  pub wide_start : {r₂ : ℕ} (j : FieldsJudgeable s₁ s₂ t₁ t₂ r₁ (Some r₂)) → Begins t₂ r₂ c → word t₂ r₂ 3 ≤ length vs
-      → Matches s₁ t₁ r₁ s₂ t₂ r₂ (replicate (length vs) None) vs → {d : Dates} → InWide s₁ s₂ t₁ t₂ r₁ (Some r₂) required vs 0 c d d
+module _ {room : ℕ} {s₁ s₂ t₁ t₂ : List ℕ} {r₁ : ℕ} {required : Bool} {vs : List (Option ℕ)} {c : Children 1} where
+  pub wide_start : {r₂ : ℕ} (j : FieldsJudgeable s₁ s₂ t₁ t₂ r₁ (Some r₂)) → Begins t₂ r₂ c → word t₂ r₂ 3 ≤ room
+      → Matches s₁ t₁ r₁ s₂ t₂ r₂ (replicate room None) vs → {d : Dates} → InWide room s₁ s₂ t₁ t₂ r₁ (Some r₂) required vs 0 c d d
   unfolding fields_begin
   wide_start j b few m =
       let o = fields_object j in
@@ -211,7 +212,7 @@ module _ {s₁ s₂ t₁ t₂ : List ℕ} {r₁ : ℕ} {required : Bool} {vs : L
         matched = rw start_rest (answers_start (λ i h. matched_fresh m o (omega (arith, k, few, b.left)) i (omega (arith, k))));
       }
 
-  module _ {r₂ : Option ℕ} {i : ℕ} {d₀ d : Dates} (a : InWide s₁ s₂ t₁ t₂ r₁ r₂ required vs i c d₀ d) where
+  module _ {r₂ : Option ℕ} {i : ℕ} {d₀ d : Dates} (a : InWide room s₁ s₂ t₁ t₂ r₁ r₂ required vs i c d₀ d) where
     pub wide_end : c.left ≡ 0 → FieldsJudged s₁ s₂ t₁ t₂ r₁ r₂ required nothing d₀ d
     wide_end l = fields_judged a.ahead l
 
@@ -220,7 +221,7 @@ module _ {s₁ s₂ t₁ t₂ : List ℕ} {r₁ : ℕ} {required : Bool} {vs : L
       wide_sought = rw q (record { ahead = a.ahead; passes = p; finds = answers_here a.matched p (name_here a.ahead.ahead.ahead p) })
 
       pub wide_next : {m : Judgement} {d₁ : Dates} → FieldJudged s₁ s₂ t₁ t₂ r₁ (found_at vs j) n required m d d₁ → m ≡ nothing
-          → {k : ℕ} → k ≡ i + 1 → InWide s₁ s₂ t₁ t₂ r₁ r₂ required vs k e d₀ d₁
+          → {k : ℕ} → k ≡ i + 1 → InWide room s₁ s₂ t₁ t₂ r₁ r₂ required vs k e d₀ d₁
       unfolding field_next
       wide_next h z l = rw l (record {
         ahead = field_next (record { ahead = a.ahead; passes = p; finds = answers_here a.matched p (name_here a.ahead.ahead.ahead p) }) (rw q at h) z;

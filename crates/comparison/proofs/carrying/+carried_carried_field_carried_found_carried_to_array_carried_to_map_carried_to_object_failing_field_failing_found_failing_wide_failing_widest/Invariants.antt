@@ -1,6 +1,7 @@
 -- The walk over two definitions meets its contracts. The measure is four times the rows of the old definition, with up to three more by the order
 -- of the calls; fields that are absent count none. The loops' invariants are `InFields` and `InWide` of carrying/Fields.antt.
 use Prim.Native.Nat.{◌+◌, ◌*◌}
+use lib.ListN.{length}
 use Rattle.std.specs.Iterator.Adapters.{enumerate_source, enumerate_count}
 use Rattle.syntax.specs.Holding.{word}
 use Rattle.definitions.proofs.Facts.{part_rows}
@@ -42,5 +43,5 @@ decreases-failing_found l = 4 * word l.old.table.now l.object 4
 
 abbrev pub invariant-failing_found-loop-i : goal.invariant-failing_found-loop-i
 invariant-failing_found-loop-i l =
-    InWide l.new.text.now l.old.text.now l.new.table.now l.old.table.now l.a l.object l.required l.values
+    InWide (length l.values) l.new.text.now l.old.text.now l.new.table.now l.old.table.now l.a l.object l.required l.values
     (enumerate_count l.i-iterator) (enumerate_source l.i-iterator)

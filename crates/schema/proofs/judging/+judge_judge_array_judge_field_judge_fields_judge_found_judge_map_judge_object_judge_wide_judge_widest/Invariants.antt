@@ -2,6 +2,7 @@
 -- judge answers for the whole, from the dates so far. `Values` and `Fields` have a law for each way out. The measure is three times the rows of the
 -- definition, with one more in `judge`, `judge_fields` and `judge_widest`, two in `judge_field` and `judge_wide`; fields that are absent count none.
 use Prim.Native.Nat.{◌+◌, ◌*◌}
+use lib.ListN.{length}
 use Rattle.std.specs.Prelude.{Some}
 use Rattle.std.specs.Iterator.Adapters.{enumerate_source, enumerate_count}
 use Rattle.syntax.specs.Holding.{word}
@@ -35,7 +36,7 @@ decreases-judge_found l = 3 * word l.schema.table.now l.object 4
 
 abbrev pub invariant-judge_found-loop-i : goal.invariant-judge_found-loop-i
 invariant-judge_found-loop-i l =
-    InWide l.document.text.now l.schema.text.now l.document.table.now l.schema.table.now l.at (Some l.object) l.required l.values
+    InWide (length l.values) l.document.text.now l.schema.text.now l.document.table.now l.schema.table.now l.at (Some l.object) l.required l.values
     (enumerate_count l.i-iterator) (enumerate_source l.i-iterator) l.initial.dates l.dates
 
 abbrev pub decreases-judge_map : goal.decreases-judge_map
