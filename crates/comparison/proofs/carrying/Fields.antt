@@ -89,7 +89,7 @@ module _ {s₁ s₂ t₁ t₂ : List ℕ} {r₁ r₂ : ℕ} {required : Bool} {c
         stays = all_fields h;
       }
 
--- the same where what the new definition has under each name was found before, in vs: i fields are compared, where there is room for so many
+-- the same where what the new definition has under each name was found before, in vs: i fields are compared, and there is room for these and those that are left
 pub record InWide (room : ℕ) (s₁ s₂ t₁ t₂ : List ℕ) (r₁ r₂ : ℕ) (required : Bool) (vs : List (Option ℕ)) (i : ℕ) (c : Children 1) : Type 0 where
   pub few : i + c.left ≤ room
   pub ahead : InFields s₁ s₂ t₁ t₂ r₁ r₂ required c

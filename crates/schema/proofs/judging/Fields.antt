@@ -185,7 +185,7 @@ module _ {s₁ s₂ t₁ t₂ : List ℕ} {r₁ : ℕ} {r₂ : Option ℕ} {requ
       onward = λ w. with_others (walks_on told q w);
     }
 
--- the same where what stands under each name was found before, in vs: i fields are judged, where there is room for so many
+-- the same where what stands under each name was found before, in vs: i fields are judged, and there is room for these and those that are left
 pub record InWide (room : ℕ) (s₁ s₂ t₁ t₂ : List ℕ) (r₁ : ℕ) (r₂ : Option ℕ) (required : Bool) (vs : List (Option ℕ)) (i : ℕ)
     (c : Children 1) (d₀ d : Dates) : Type 0 where
   pub ahead : InFields s₁ s₂ t₁ t₂ r₁ r₂ required c d₀ d
